@@ -1,0 +1,2 @@
+pub mod Subtags
+pub mod LastByte
