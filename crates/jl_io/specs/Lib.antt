@@ -1,0 +1,5 @@
+pub mod Outside
+pub mod Shelves
+pub mod Memory
+pub mod MemoryForm
+pub mod Streams

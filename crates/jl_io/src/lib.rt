@@ -1,0 +1,14 @@
+//! The outside: what gives the bytes, what takes the bytes, and what holds contents by name. Every
+//! layer above is generic over the three traits, so it runs over memory as over the process's
+//! streams.
+#![tactic(auto)]
+
+mod memory;
+mod ports;
+mod shelves;
+mod streams;
+
+pub use memory::MemPort;
+pub use ports::{ByteOut, Failed, Port};
+pub use shelves::{FetchStop, NoShelf, Shelf};
+pub use streams::StdPort;
