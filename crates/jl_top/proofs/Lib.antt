@@ -1,0 +1,13 @@
+pub mod Fronts
+pub mod EscapeRuns
+pub mod Joins
+pub mod Handing
+pub mod Telling
+pub mod Puttings
+pub mod Saying
+pub mod Sure
+pub mod Feeding
+pub mod LineFronts
+pub mod PieceLines
+pub mod Going
+pub mod Reporting

@@ -1,0 +1,17 @@
+use Rattle.std.proofs.Common.{◌≡◌, ◌≤◌, ◌-◌, ℕ, List, length, take}
+use Rattle.jl_model.specs.Parts.{Parts}
+use Rattle.jl_top.specs.Reading.{HasRead, HasBegun, Fed}
+use Rattle.jl_top.proofs.flat_readers.FlatReader.feed.Given as goal
+
+abbrev pub invariant-loop-at : goal.invariant-loop-at
+invariant-loop-at g l = record {
+  within : l.at ≤ length l.piece;
+  begun : HasBegun l.self;
+  fed : (bytes : List ℕ) (quads : List Parts) → HasRead bytes quads l.initial.self → Fed bytes quads (take l.at l.piece) l.self (g.O.QuadOut.tells l.initial.out) (g.O.QuadOut.tells l.out) (g.O.QuadOut.selects l.initial.out);
+  selects : (q : Parts) → g.O.QuadOut.selects l.out q ≡ g.O.QuadOut.selects l.initial.out q;
+  later : g.O.QuadOut.faults l.initial.out ≤ g.O.QuadOut.faults l.out;
+  beside : g.O.QuadOut.beside l.initial.out l.out;
+}
+
+abbrev pub decreases-loop-at : goal.decreases-loop-at
+decreases-loop-at g l = length l.piece - l.at

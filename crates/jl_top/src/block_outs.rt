@@ -1,0 +1,102 @@
+//! An out that hands its bytes on in blocks.
+ghost use Rattle.std.proofs.Common.{rules, refl, ◌∙◌};
+ghost use Rattle.std.specs.Prelude.{◌≡◌, ◌+◌, ◌<◌, ◌≤◌, ◌++◌, [], OnOk, OnErr, IfOk, IsErr, length, take, count_by, vec_len};
+ghost use Rattle.jl_model.specs.Causes.{HasCause};
+ghost use Rattle.jl_io.specs.Outside.{appended};
+ghost use Rattle.jl_top.specs.Blocks.{HandsOn, held_of, is_line_feed, CountsLines};
+
+use super::blocks::Block;
+use jl_io::{ByteOut, Failed};
+
+/// An out over a block and over the out to which the block is handed on when it is full.
+#[derive(Drop)]
+pub struct BlockOut<'a, B: ByteOut> {
+    pub out: &'a mut B,
+    pub block: &'a mut Block,
+}
+
+impl<'a, B: ByteOut> BlockOut<'a, B> {
+    /// An out over these two. It takes no memory.
+    pub fn new(out: &'a mut B, block: &'a mut Block) -> BlockOut<'a, B>
+        ensures out { result.out.ghost_name ≡ out.entry.ghost_name }
+        ensures out_now { result.out.now ≡ out.old }
+        ensures block { result.block.ghost_name ≡ block.entry.ghost_name }
+        ensures block_now { result.block.now ≡ block.old }
+    {
+        BlockOut { out, block }
+    }
+}
+
+impl<'a, B: ByteOut> ByteOut for BlockOut<'a, B> {
+    ghost written = { λ o. appended (B.written o.out.now) (held_of o.block.now) };
+
+    ghost put_faults = { λ o. B.put_faults o.out.now };
+
+    ghost beside = { λ a b. (b.out.ghost_name ≡ a.out.ghost_name) × (b.block.ghost_name ≡ a.block.ghost_name) × B.beside a.out.now b.out.now
+        × (CountsLines (B.written a.out.now) a.block.now.lines → CountsLines (B.written b.out.now) b.block.now.lines) };
+
+    fn put(&mut self, bytes: &[u8]) -> Result<usize, Failed> {
+        make_room(self.out, self.block)?;
+        Ok(self.block.gather(bytes))
+    }
+
+    ghost itself = { λ a. (refl, refl, B.itself a.out.now, λ h. h) };
+
+    ghost joins = { λ a b c h k. (k.0 ∙ h.0, k.1 ∙ h.1, B.joins a.out.now b.out.now c.out.now h.2 k.2, λ n. k.3 (h.3 n)) };
+}
+
+/// Hands on some of what is held.
+fn hand_on_some<B: ByteOut>(out: &mut B, block: &mut Block) -> Result<(), Failed>
+    requires { block.old.handed < vec_len block.old.gathered }
+    ensures hands_on { HandsOn (B.written out.old) (B.written out.new) block.old block.new }
+    ensures some { OnOk result (block.old.handed < block.new.handed) }
+    ensures gathered { block.new.gathered.items ≡ block.old.gathered.items }
+    ensures cause { HasCause (B.put_faults out.old) (B.put_faults out.new) (IsErr result) }
+    ensures beside { B.beside out.old out.new }
+{
+    let rest = &block.gathered[block.handed..];
+    match out.put(rest) {
+        Ok(n) => {
+            let feeds = line_feeds(&rest[..n]);
+            block.lines = block.lines.saturating_add(feeds);
+            block.handed += n;
+            Ok(())
+        }
+        Err(failed) => Err(failed),
+    }
+}
+
+fn line_feeds(bytes: &[u8]) -> u64
+    ensures { result ≡ count_by is_line_feed bytes.now }
+{
+    bytes.iter().filter(|byte| **byte == b'\n').count() as u64
+}
+
+/// Hands on all that is held.
+pub fn hand_on<B: ByteOut>(out: &mut B, block: &mut Block) -> Result<(), Failed>
+    ensures hands_on { HandsOn (B.written out.old) (B.written out.new) block.old block.new }
+    ensures all { OnOk result (held_of block.new ≡ []) }
+    ensures empty { OnOk result (block.new.gathered.items ≡ []) }
+    ensures cause { HasCause (B.put_faults out.old) (B.put_faults out.new) (IsErr result) }
+    ensures beside { B.beside out.old out.new }
+{
+    while block.handed < block.gathered.len() {
+        hand_on_some(out, block)?;
+    }
+    block.empty();
+    Ok(())
+}
+
+/// Hands on all that is held where there is no more room.
+fn make_room<B: ByteOut>(out: &mut B, block: &mut Block) -> Result<(), Failed>
+    ensures hands_on { HandsOn (B.written out.old) (B.written out.new) block.old block.new }
+    ensures room { OnOk result (vec_len block.new.gathered < 65536) }
+    ensures cause { HasCause (B.put_faults out.old) (B.put_faults out.new) (IsErr result) }
+    ensures beside { B.beside out.old out.new }
+{
+    if block.is_full() {
+        hand_on(out, block)
+    } else {
+        Ok(())
+    }
+}

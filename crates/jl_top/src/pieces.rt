@@ -1,0 +1,135 @@
+//! One piece of the input: from its bytes to the lines that it makes sure.
+ghost use Rattle.std.specs.Prelude.{◌≡◌, ◌⊎◌, ℕ, List, [], ◌++◌, false, OnOk, IfErr, IsErr, IsErrOf};
+ghost use Rattle.jl_io.specs.Outside.{appended};
+ghost use Rattle.jl_model.specs.Causes.{HasCause};
+ghost use Rattle.jl_model.specs.Parts.{Parts};
+ghost use Rattle.jl_top.specs.Blocks.{held_of, CountsLines, HandsOn};
+ghost use Rattle.jl_top.specs.Pieces.{FedLines, StopsWithLines, FailedNow};
+ghost use Rattle.jl_top.specs.Reading.{HasRead, HasBegun};
+
+use super::block_outs::{BlockOut, hand_on};
+use super::blocks::Block;
+use super::flat_readers::FlatReader;
+use super::line_outs::LineOut;
+use super::stops::Stop;
+use jl_io::ByteOut;
+use std::alloc::Global;
+
+/// Reads a piece, and puts the lines that it makes sure to the out, through the block. Nothing is
+/// held in the block afterwards, unless the out failed.
+pub fn read_piece<B: ByteOut>(
+    alloc: Global,
+    reader: &mut FlatReader,
+    piece: &[u8],
+    out: &mut B,
+    block: &mut Block,
+) -> Result<(), Stop>
+    requires begun { HasBegun reader.old }
+    requires none_held { held_of block.old ≡ [] }
+    ensures fed { OnOk result ((bytes : List ℕ) (quads : List Parts) → HasRead bytes quads reader.old
+        → FedLines bytes quads piece.now reader.new (B.written out.old) (B.written out.new)) }
+    ensures stopped { StopsWithLines result reader.old piece.now (B.written out.old) (B.written out.new) }
+    ensures none_held { OnOk result (held_of block.new ≡ []) }
+    ensures counts { CountsLines (B.written out.old) block.old.lines → CountsLines (B.written out.new) block.new.lines }
+    ensures cause { HasCause (B.put_faults out.old) (B.put_faults out.new) (IsErrOf result Stop.OutFault) }
+    ensures beside { B.beside out.old out.new }
+{
+    match read_into(alloc, reader, piece, out, block) {
+        Ok(()) => hand_on_rest(out, block),
+        Err(stop) => Err(hand_on_stopped(out, block, stop)),
+    }
+}
+
+/// Hands on all that is held.
+fn hand_on_rest<B: ByteOut>(out: &mut B, block: &mut Block) -> Result<(), Stop>
+    ensures hands_on { HandsOn (B.written out.old) (B.written out.new) block.old block.new }
+    ensures all { OnOk result (held_of block.new ≡ []) }
+    ensures stop { IfErr result (λ stop. stop ≡ Stop.OutFault) }
+    ensures cause { HasCause (B.put_faults out.old) (B.put_faults out.new) (IsErr result) }
+    ensures beside { B.beside out.old out.new }
+{
+    match hand_on(out, block) {
+        Ok(()) => Ok(()),
+        Err(_) => Err(Stop::OutFault),
+    }
+}
+
+/// Hands on all that is held after a stop, unless the out failed. Where it fails now, that is what
+/// is answered, since those lines came first.
+fn hand_on_stopped<B: ByteOut>(out: &mut B, block: &mut Block, stop: Stop) -> Stop
+    ensures hands_on { HandsOn (B.written out.old) (B.written out.new) block.old block.new }
+    ensures answer { (result ≡ Stop.OutFault) ⊎ ((result ≡ stop) × (held_of block.new ≡ [])) }
+    ensures cause { HasCause (B.put_faults out.old) (B.put_faults out.new) (FailedNow stop result) }
+    ensures beside { B.beside out.old out.new }
+{
+    match stop {
+        Stop::OutFault => Stop::OutFault,
+        Stop::Refused(_) | Stop::NoMemory => match hand_on(out, block) {
+            Ok(()) => stop,
+            Err(_) => Stop::OutFault,
+        },
+    }
+}
+
+/// Reads a piece, and gathers the lines that it makes sure in the block, which is handed on where it
+/// is full.
+fn read_into<B: ByteOut>(
+    alloc: Global,
+    reader: &mut FlatReader,
+    piece: &[u8],
+    out: &mut B,
+    block: &mut Block,
+) -> Result<(), Stop>
+    requires { HasBegun reader.old }
+    ensures fed { OnOk result ((bytes : List ℕ) (quads : List Parts) → HasRead bytes quads reader.old
+        → FedLines bytes quads piece.now reader.new (appended (B.written out.old) (held_of block.old)) (appended (B.written out.new) (held_of block.new))) }
+    ensures stopped { StopsWithLines result reader.old piece.now (appended (B.written out.old) (held_of block.old)) (appended (B.written out.new) (held_of block.new)) }
+    ensures counts { CountsLines (B.written out.old) block.old.lines → CountsLines (B.written out.new) block.new.lines }
+    ensures cause { HasCause (B.put_faults out.old) (B.put_faults out.new) (IsErrOf result Stop.OutFault) }
+    ensures beside { B.beside out.old out.new }
+{
+    let mut gathering = BlockOut::new(out, block);
+    read_lines(alloc, reader, piece, &mut gathering)
+}
+
+/// Reads a piece, and puts the lines that it makes sure to the out.
+fn read_lines<B: ByteOut>(
+    alloc: Global,
+    reader: &mut FlatReader,
+    piece: &[u8],
+    out: &mut B,
+) -> Result<(), Stop>
+    requires { HasBegun reader.old }
+    ensures fed { OnOk result ((bytes : List ℕ) (quads : List Parts) → HasRead bytes quads reader.old
+        → FedLines bytes quads piece.now reader.new (B.written out.old) (B.written out.new)) }
+    ensures stopped { StopsWithLines result reader.old piece.now (B.written out.old) (B.written out.new) }
+    ensures cause { HasCause (B.put_faults out.old) (B.put_faults out.new) (IsErrOf result Stop.OutFault) }
+    ensures beside { B.beside out.old out.new }
+{
+    let mut lines = LineOut::new(out);
+    read_through(alloc, reader, piece, &mut lines)
+}
+
+/// Reads a piece, and puts its quads to the out of lines. An out that has failed decides.
+fn read_through<'a, B: ByteOut>(
+    alloc: Global,
+    reader: &mut FlatReader,
+    piece: &[u8],
+    lines: &mut LineOut<'a, B>,
+) -> Result<(), Stop>
+    requires begun { HasBegun reader.old }
+    requires unfailed { lines.old.failed ≡ false }
+    requires unrefused { lines.old.refused ≡ 0 }
+    ensures fed { OnOk result ((bytes : List ℕ) (quads : List Parts) → HasRead bytes quads reader.old
+        → FedLines bytes quads piece.now reader.new (B.written lines.old.out.now) (B.written lines.new.out.now)) }
+    ensures stopped { StopsWithLines result reader.old piece.now (B.written lines.old.out.now) (B.written lines.new.out.now) }
+    ensures cause { HasCause (B.put_faults lines.old.out.now) (B.put_faults lines.new.out.now) (IsErrOf result Stop.OutFault) }
+    ensures beside { B.beside lines.old.out.now lines.new.out.now }
+    ensures same { lines.new.out.ghost_name ≡ lines.old.out.ghost_name }
+{
+    let read = reader.feed(alloc, piece, lines);
+    if lines.failed {
+        return Err(Stop::OutFault);
+    }
+    read
+}
