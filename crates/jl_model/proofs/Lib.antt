@@ -1,2 +1,3 @@
 pub mod Subtags
 pub mod LastByte
+pub mod JsonLists

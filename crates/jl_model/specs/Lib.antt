@@ -2,7 +2,16 @@ pub mod Causes
 pub mod Codes
 pub mod Iris
 pub mod Labels
+pub mod Blanks
 pub mod Tags
 pub mod Parts
 pub mod Lines
 pub mod Flat
+pub mod JsonTree
+pub mod Resolve
+pub mod Ren
+pub mod JsonView
+pub mod JsonNumbers
+pub mod JsonStrings
+pub mod JsonText
+pub mod TextFaults

@@ -3,21 +3,35 @@
 #![tactic(auto)]
 
 mod codes;
+mod expansions;
 mod faults;
+mod graph_scopes;
+mod map_kinds;
+mod orders;
 mod outs;
 mod quads;
 mod scalars;
+mod term_parts;
 mod terms;
 #[cfg(test)]
 mod tests;
 mod text_tests;
 mod texts;
+mod tokens;
+mod trees;
 
 pub use codes::Code;
+pub use expansions::Expanded;
 pub use faults::Fault;
+pub use graph_scopes::GraphScope;
+pub use map_kinds::{ItemKind, MapKind};
+pub use orders::Order;
 pub use outs::{OutStop, QuadOut};
 pub use quads::Quad;
 pub use scalars::Scalar;
+pub use term_parts::{Containers, DirEntry, LangEntry};
 pub use terms::{Lit, Term};
 pub use text_tests::{is_iri, is_iri_byte, is_kept_label, is_language_tag, is_scheme_byte};
 pub use texts::{NoMemory, Text};
+pub use tokens::Token;
+pub use trees::{Items, Json, Member, Members, Node};

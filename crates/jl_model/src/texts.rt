@@ -81,4 +81,11 @@ impl Text {
             Err(_) => Err(NoMemory),
         }
     }
+
+    /// Takes all bytes out, and keeps the room.
+    pub fn clear(&mut self)
+        ensures { self.new ≡ [] }
+    {
+        self.octets.clear();
+    }
 }

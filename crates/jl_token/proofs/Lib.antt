@@ -1,16 +1,25 @@
-pub mod NamesAmong
-pub mod IriForms
-pub mod PlainTexts
-pub mod HeldStrings
-pub mod PieceSteps
-pub mod MoveCases
-pub mod Goes
-pub mod Comes
-pub mod Keeps
-pub mod GoesOn
-pub mod CheckedMoves
-pub mod Steps
-pub mod StepCalls
-pub mod RunSteps
-pub mod NewKeys
-pub mod FlatLaws
+mod Heads
+mod ReversedSums
+mod NamesAmong
+mod NumberMoves
+mod StringMoves
+mod Languages
+mod Rules
+mod ByteKinds
+mod NewNames
+mod TokenEnds
+mod Forward
+mod Back
+mod Complete
+mod End
+mod Utf8Moves
+mod Relaxed
+mod WordLetters
+mod TokenPlaces
+mod Between
+mod OneByte
+mod LexerCalls
+mod PlainRuns
+pub mod OneTree
+mod OneReading
+pub mod MeantUtf8

@@ -1,27 +1,30 @@
 //! The lexer.
-ghost use Rattle.std.specs.Prelude.{◌≡◌, ◌↔◌, ◌-◌, ◌^◌, ◌≤◌, ℕ, List, [], ◌∷◌, ◌++◌, IsSome, IfOk, IfErr, IfSome, OnOk, OnErr, length, min, take};
-ghost use Rattle.jl_token.specs.Runs.{run_len, after_run};
+ghost use Rattle.std.specs.Prelude.{◌≡◌, ◌≤◌, ◌<◌, ◌-◌, ◌^◌, ◌++◌, ℕ, List, [], ◌∷◌, Some, None, Ok, Err, true, false, IfSome, IfNone, IfOk, IfErr, OnOk, OnErr, IsSome, IsNone, IsTrue, IsUtf8, ◌↔◌, length, min, take};
+ghost use Rattle.jl_model.specs.declared.tokens.Token.{Token};
+ghost use Rattle.jl_model.specs.JsonStrings.{IsString};
+ghost use Rattle.jl_model.specs.JsonTree.{Tree};
+ghost use Rattle.jl_model.specs.JsonText.{Reads};
+ghost use Rattle.jl_token.specs.declared.states.LexState.{LexState};
+ghost use Rattle.jl_token.specs.declared.steps.LexStop.{LexStop};
+ghost use Rattle.jl_token.specs.Machine as machine;
+ghost use Rattle.jl_token.specs.Runs.{run_len, Runs};
+ghost use Rattle.jl_token.specs.Lexed.{Stands, IsFront, IsFormed, Takes, Stops, Ends, StopsEnd, HasOneText, tokens_of, told, open_len};
 
-use super::advances::{no_token, one_token, pass, tell};
-use super::forms::is_formed;
-use super::moves::{is_silent, judge};
-use super::names::Names;
-use super::runs::{before_limit, read_silent};
-use super::spots::{Spot, is_in_string};
-use super::states::LexState;
-use super::tokens::{LexStop, Step, Token};
-use jl_model::{Code, Fault, NoMemory, Text};
+use crate::readings::Reading;
+use crate::states::LexState;
+use crate::steps::{LexStop, Signs, Step};
+use crate::strings::plain_len;
+use jl_model::{Code, Fault, NoMemory, Token};
 use std::alloc::Global;
 use std::marker::Model;
 
-/// The first place that is too far.
-pub(crate) const LIMIT: u64 = 1 << 40;
+/// The place at which no byte may stand.
+const END_OF_PLACES: u64 = 1_099_511_627_776;
 
-/// A lexer that is fed one byte at a time. It keeps a state, and nothing of what it was fed.
+/// A lexer of one JSON text (RFC 8259) in UTF-8.
 ///
-/// What it has read is told by the relation `Lexed`: the bytes and the tokens so far, and what may
-/// still come. `new` gives the relation for no bytes, and each call that answers Ok keeps it.
-/// After an error the lexer has stopped, and answers that error from then on.
+/// It takes the bytes of the text one after another, and gives each token at the byte that completes
+/// it. It refuses a text at the first byte with which the text can't go on to be readable.
 #[derive(Debug, Drop)]
 pub struct Lexer {
     state: LexState,
@@ -29,10 +32,9 @@ pub struct Lexer {
 
 impl Model for Lexer {
     ghost use Rattle.jl_token.specs.declared.states.LexState.{LexState};
+    ghost use Rattle.jl_token.specs.Lexed.{IsFormed};
 
     ghost Value = { LexState };
-
-    ghost use Rattle.jl_token.specs.Formed.{IsFormed};
 
     ghost view = { λ lexer. lexer.state };
 
@@ -40,178 +42,178 @@ impl Model for Lexer {
 }
 
 impl Lexer {
-    ghost use Rattle.jl_token.specs.After.{tokens_in};
-    ghost use Rattle.jl_token.specs.Formed.{IsFormed};
-    ghost use Rattle.jl_token.specs.Kept.{open_len};
-    ghost use Rattle.jl_token.specs.Refusals.{IsRefused, IsEndRefused, too_long};
-    ghost use Rattle.jl_token.specs.Rest.{Lexed, Reads};
-    ghost use Rattle.jl_token.specs.declared.tokens.LexStop.TheVariants as stops;
-    ghost use Rattle.jl_token.specs.declared.tokens.Token.{Token};
-
-    /// A lexer for a text whose first byte has this place. It takes no memory.
+    /// A lexer whose first byte has this place. It takes no memory.
+    #[tactic(auto, using(crate::proofs::LexerCalls::new_formed))]
     pub fn new(alloc: Global, start: u64) -> Lexer
         requires { start ≤ 2 ^ 40 }
-        ensures { Lexed start [] [] result }
+        ensures empty { Stands start [] [] result }
+        ensures live { result.ended ≡ false }
     {
         Lexer {
             state: LexState {
-                at: start,
-                spot: Spot::Start,
-                opened: 0,
-                held: Text::empty(alloc),
-                names: Names::empty(alloc),
+                reading: Reading::new(alloc, start),
                 stopped: None,
+                ended: false,
             },
         }
     }
 
-    /// Reads one more byte, and tells the tokens that it completes.
-    pub fn step(&mut self, alloc: Global, byte: u8) -> Result<Step, LexStop>
-        // What Ok holds.
-        ensures tokens { IfOk result (λ step. (start : ℕ) (bytes : List ℕ) (tokens : List Token) → Lexed start bytes tokens self.old
-            → Lexed start (bytes ++ byte ∷ []) (tokens ++ tokens_in step) self.new) }
-        // When an error comes, and what it leaves.
-        ensures refused { IfErr result (λ stop. (start : ℕ) (bytes : List ℕ) (tokens : List Token) → Lexed start bytes tokens self.old
-            → IsRefused start bytes byte stop) }
-        ensures too_long { self.old.stopped ≡ None → self.old.at ≡ 2 ^ 40 → result ≡ Err too_long }
-        ensures stays { IfSome self.old.stopped (λ stop. result ≡ Err stop) }
-        ensures stops { IfErr result (λ stop. self.new.stopped ≡ Some stop) }
-        ensures left { IfErr result (λ stop. self.new ≡ record self.old { stopped = Some stop }) }
+    /// A lexer that goes on from all that another one kept. It takes no memory.
+    pub fn from_state(state: LexState) -> Option<Lexer>
+        ensures formed { IsSome result ↔ IsFormed state }
+        ensures state { IfSome result (λ lexer. lexer ≡ state) }
+    {
+        if !state.is_formed() {
+            return None;
+        }
+        Some(Lexer { state })
+    }
+
+    /// How many bytes it holds: those read of the token that is being read, and the names of the
+    /// open objects' keys. It takes no memory.
+    pub fn open_len(&self) -> u64
+        ensures { result ≡ min (open_len self.now.reading) (2 ^ 64 - 1) }
+    {
+        self.state.reading.open_len()
+    }
+
+    /// All that it keeps.
+    pub fn state(&self) -> &LexState
+        ensures { result.now ≡ self.now }
+    {
+        &self.state
+    }
+
+    /// One byte, whose tokens keep their text in the state.
+    fn take(&mut self, alloc: Global, byte: u8) -> Result<Signs, LexStop>
+        ensures moves { IfOk result (λ signs. machine.moved true 256 self.old.reading byte ≡ Ok (told signs self.old.reading.at self.new.reading, self.new.reading)) }
+        ensures texts { IfOk result (λ signs. HasOneText signs.number signs.sign) }
+        ensures was { OnOk result (self.old.stopped ≡ None) }
+        ensures stops { IfErr result (λ stop. (self.new.stopped ≡ Some stop) × Stops self.old byte stop) }
+        ensures again { (stop : LexStop) → self.old.stopped ≡ Some stop → (result ≡ Err stop) × (self.new ≡ self.old) }
+        ensures goes_on { OnOk result (self.new.stopped ≡ None) }
+        ensures ended { self.new.ended ≡ self.old.ended }
     {
         if let Some(stop) = self.state.stopped {
             return Err(stop);
         }
-        if self.state.at >= LIMIT {
-            let at = self.state.at;
-            return self.stop(refusal(Code::TooLong, at));
-        }
-        let made = judge(&self.state, byte);
-        if is_silent(made) {
-            return match pass(&mut self.state, byte, made) {
-                Ok(()) => Ok(no_token()),
-                Err(_) => self.stop(LexStop::NoMemory),
+        let at = self.state.reading.at;
+        let start = self.state.reading.start;
+        if at >= END_OF_PLACES {
+            let fault = Fault {
+                code: Code::TooLong,
+                at: END_OF_PLACES,
             };
+            return Err(self.state.stop(LexStop::Refused(fault)));
         }
-        match tell(alloc, &mut self.state, made) {
-            Err(_) => self.stop(LexStop::NoMemory),
-            Ok(told) => match told {
-                Some(token) => Ok(one_token(token)),
-                None => {
-                    let at = place_of_fault(&self.state);
-                    self.stop(refusal(Code::NotYet, at))
-                }
-            },
+        match self.state.reading.move_on(alloc, byte) {
+            Ok(signs) => Ok(signs),
+            Err(halt) => Err(self.state.stop(halt.stop(at, start))),
         }
     }
 
-    // Out of line, since it runs once at most.
-    #[inline(never)]
-    fn stop(&mut self, stop: LexStop) -> Result<Step, LexStop>
-        ensures result { result ≡ Err stop }
-        ensures state { self.new ≡ record self.old { stopped = Some stop } }
-    {
-        self.state.stopped = Some(stop);
-        Err(stop)
-    }
-
-    /// Reads the bytes in front of the piece that complete no token and aren't refused, and answers
-    /// how many. The byte behind them goes through `step`.
+    /// Takes the next byte, and gives what it completes without the texts.
     ///
-    /// It is 0 at the place 2^40, and once the lexer has stopped. After want of memory the lexer
-    /// has stopped.
-    pub fn run(&mut self, piece: &[u8]) -> Result<usize, NoMemory>
-        ensures within { IfOk result (λ n. n ≤ length piece.now) }
-        ensures longest { IfOk result (λ n. n ≡ run_len self.old piece.now) }
-        ensures read { IfOk result (λ n. (start : ℕ) (bytes : List ℕ) (tokens : List Token) → Lexed start bytes tokens self.old
-            → Lexed start (bytes ++ take n piece.now) tokens self.new) }
-        ensures state { IfOk result (λ n. self.new ≡ after_run self.old (take n piece.now)) }
-        ensures stays { IsSome self.old.stopped → result ≡ Ok 0 }
-        ensures stops { OnErr result (self.new.stopped ≡ Some stops.NoMemory) }
+    /// The text of a key, a string or a number stands in `state().reading.part`, until the next
+    /// token begins. `None` says that the lexer has stopped, with the error in `state().stopped`.
+    pub fn advance(&mut self, alloc: Global, byte: u8) -> Option<Signs>
+        requires live { self.old.ended ≡ false }
+        ensures taken { IfSome result (λ signs. Takes self.old self.new byte (told signs self.old.reading.at self.new.reading)) }
+        ensures stops { IsNone result → (stop : LexStop) × (self.new.stopped ≡ Some stop) × Stops self.old byte stop }
+        ensures again { IsSome self.old.stopped → (result ≡ None) × (self.new ≡ self.old) }
+        ensures goes_on { IsSome result → self.new.stopped ≡ None }
+        ensures still_live { self.new.ended ≡ false }
+    {
+        match self.take(alloc, byte) {
+            Ok(signs) => Some(signs),
+            Err(_) => None,
+        }
+    }
+
+    /// Takes the next byte, and gives the tokens that it completes.
+    ///
+    /// After an error each call answers the same error again.
+    pub fn step(&mut self, alloc: Global, byte: u8) -> Result<Step, LexStop>
+        requires live { self.old.ended ≡ false }
+        ensures taken { IfOk result (λ step. Takes self.old self.new byte (tokens_of step)) }
+        ensures stops { IfErr result (λ stop. (self.new.stopped ≡ Some stop) × Stops self.old byte stop) }
+        ensures again { (stop : LexStop) → self.old.stopped ≡ Some stop → (result ≡ Err stop) × (self.new ≡ self.old) }
+        ensures goes_on { OnOk result (self.new.stopped ≡ None) }
+        ensures still_live { self.new.ended ≡ false }
+    {
+        let at = self.state.reading.at;
+        let signs = self.take(alloc, byte)?;
+        Ok(self.state.reading.take_tokens(alloc, signs, at))
+    }
+
+    /// Takes the first of these bytes that mean themselves inside a string, and says how many.
+    ///
+    /// It takes none outside of strings, inside a character or an escape, and after an error. They
+    /// complete no token. After want of memory each call answers that.
+    pub fn run(&mut self, bytes: &[u8]) -> Result<usize, NoMemory>
+        requires live { self.old.ended ≡ false }
+        ensures count { IfOk result (λ count. count ≡ run_len self.old bytes.now) }
+        ensures bound { IfOk result (λ count. count ≤ length bytes.now) }
+        ensures runs { IfOk result (λ count. Runs self.old self.new (take count bytes.now)) }
+        ensures kept { OnOk result (self.new.stopped ≡ self.old.stopped) }
+        ensures memory { OnErr result (self.new.stopped ≡ Some LexStop.NoMemory) }
+        ensures still_live { self.new.ended ≡ false }
     {
         if self.state.stopped.is_some() {
             return Ok(0);
         }
-        let front = before_limit(self.state.at, piece);
-        match read_silent(&mut self.state, front) {
-            Ok(len) => Ok(len),
-            Err(_) => {
-                self.state.stopped = Some(LexStop::NoMemory);
+        if !self.state.reading.is_in_plain() {
+            return Ok(0);
+        }
+        let room = END_OF_PLACES - self.state.reading.at;
+        let count = (plain_len(bytes) as u64).min(room) as usize;
+        match self.state.reading.run(&bytes[..count]) {
+            Ok(()) => Ok(count),
+            Err(NoMemory) => {
+                self.state.stop(LexStop::NoMemory);
                 Err(NoMemory)
             }
         }
     }
 
-    /// Ends the text. No token of a flat text is completed by its end.
-    pub fn finish(&mut self) -> Result<Option<Token>, LexStop>
-        // What Ok holds.
-        ensures token { IfOk result (λ token. token ≡ None) }
-        ensures reads { OnOk result ((start : ℕ) (bytes : List ℕ) (tokens : List Token) → Lexed start bytes tokens self.old → Reads start bytes tokens) }
-        ensures kept { OnOk result (self.new ≡ self.old) }
-        // When an error comes, and what it leaves.
-        ensures refused { IfErr result (λ stop. (start : ℕ) (bytes : List ℕ) (tokens : List Token) → Lexed start bytes tokens self.old
-            → IsEndRefused start bytes stop) }
-        ensures stays { IfSome self.old.stopped (λ stop. result ≡ Err stop) }
-        ensures stops { IfErr result (λ stop. self.new.stopped ≡ Some stop) }
-        ensures left { IfErr result (λ stop. self.new ≡ record self.old { stopped = Some stop }) }
+    /// The end of the text: the number that only the end completes, if there is one.
+    ///
+    /// It takes no memory. An Ok ends the lexer, and after an error each call answers the same error
+    /// again.
+    pub fn finish(&mut self, alloc: Global) -> Result<Option<Token>, LexStop>
+        requires live { self.old.ended ≡ false }
+        ensures read { IfOk result (λ token. Ends self.old token) }
+        ensures stops { IfErr result (λ stop. (self.new.stopped ≡ Some stop) × StopsEnd self.old stop) }
+        ensures again { (stop : LexStop) → self.old.stopped ≡ Some stop → (result ≡ Err stop) × (self.new ≡ self.old) }
+        ensures ended { OnOk result (self.new.ended ≡ true) }
+        ensures still_live { OnErr result (self.new.ended ≡ false) }
     {
         if let Some(stop) = self.state.stopped {
             return Err(stop);
         }
-        if let Spot::End = self.state.spot {
-            return Ok(None);
-        }
-        let stop = refusal(Code::Truncated, self.state.at);
-        self.state.stopped = Some(stop);
-        Err(stop)
-    }
-
-    /// How many bytes the string that is read and the names of the open object's keys have, or
-    /// 2^64 - 1 where they have more. It takes no memory.
-    pub fn open_len(&self) -> u64
-        ensures { result ≡ min (open_len self.now) (2 ^ 64 - 1) }
-    {
-        let held = self.state.held.bytes().len() as u64;
-        held.saturating_add(self.state.names.len())
-    }
-
-    /// What the lexer keeps.
-    pub fn state(&self) -> &LexState
-        ensures state { result.now ≡ self.now }
-        ensures formed { IsFormed self.now }
-    {
-        &self.state
-    }
-
-    /// The lexer with this state, where it meets the rule of form. It takes no memory.
-    pub fn from_state(state: LexState) -> Option<Lexer>
-        ensures formed { IsSome result ↔ IsFormed state }
-        ensures state { IfSome result (λ lexer. lexer ≡ state) }
-    {
-        if is_formed(&state) {
-            Some(Lexer { state })
-        } else {
-            None
+        match self.state.reading.finish(alloc) {
+            Ok(token) => {
+                self.state.ended = true;
+                Ok(token)
+            }
+            Err(stop) => Err(self.state.stop(stop)),
         }
     }
 }
 
-ghost use Rattle.std.specs.Prelude.{if◌then◌else◌};
-ghost use Rattle.jl_token.specs.Moves.{in_string};
-ghost use Rattle.jl_token.specs.declared.tokens.LexStop.{LexStop};
-ghost use Rattle.jl_token.specs.declared.tokens.LexStop.TheVariants.{Refused};
+/// What the relation between bytes, tokens and state says: the bytes begin a readable text, and the
+/// tokens given for them are the first ones of each readable text that begins so.
+#[tactic(auto, using(crate::proofs::LexerCalls::relation))]
+pub fn law_front()
+    ensures { (start : ℕ) (p : List ℕ) (given : List Token) (s : LexState) → Stands start p given s → IsFront start p given }
+{}
 
-fn refusal(code: Code, at: u64) -> LexStop
-    ensures { result ≡ Refused (record { code = code; at = at }) }
-{
-    LexStop::Refused(Fault { code, at })
-}
+/// A text has one reading at most: one tree, and one list of tokens.
+pub fn law_one_reading()
+    ensures { (start : ℕ) (text : List ℕ) (tree other : Tree) (tokens others : List Token) → Reads start text tree tokens → Reads start text other others → (tree ≡ other) × (tokens ≡ others) }
+{}
 
-fn place_of_fault(state: &LexState) -> u64
-    ensures { result ≡ (if in_string state.now.spot then state.now.opened else state.now.at) }
-{
-    if is_in_string(state.spot) {
-        state.opened
-    } else {
-        state.at
-    }
-}
+/// What a string means is UTF-8.
+pub fn law_utf8()
+    ensures { (meant text : List ℕ) → IsString meant text → IsUtf8 meant }
+{}

@@ -1,26 +1,28 @@
-//! A lexer that is fed one byte at a time, or a run of bytes at once.
-//!
-//! So far it reads flat texts alone: one object without white space, whose first key is `@id`,
-//! whose keys are IRIs and whose values are plain strings. What is special to them stands in
-//! `spots` and `moves`.
+//! A lexer of JSON text that takes one byte after another.
 #![tactic(auto)]
 
-mod advances;
-mod forms;
-mod laws;
+mod kinds;
 mod lexers;
 mod moves;
 mod names;
-mod runs;
-mod spots;
+mod numbers;
+mod opens;
+mod readings;
 mod states;
-#[cfg(test)]
-mod tests;
-mod tokens;
+mod steps;
+mod strings;
+mod words;
 
-pub use laws::law_flat;
-pub use lexers::Lexer;
+pub use jl_model::Token;
+pub use lexers::{Lexer, law_front, law_one_reading, law_utf8};
 pub use names::Names;
-pub use spots::Spot;
+pub use numbers::InNumber;
+pub use opens::{Open, Opens};
+pub use readings::{Reading, Spot};
 pub use states::LexState;
-pub use tokens::{LexStop, Step, Token};
+pub use steps::{LexStop, Sign, Signs, Step};
+pub use strings::InString;
+pub use words::InWord;
+
+#[cfg(test)]
+mod lexer_tests;

@@ -1,177 +1,430 @@
-//! What the next byte of a flat text does.
-ghost use Rattle.std.specs.Prelude.{◌≡◌, [], ◌∷◌};
-ghost use Rattle.jl_model.specs.Flat as flat;
-ghost use Rattle.jl_token.specs.Moves as moves;
-ghost use Rattle.jl_token.specs.Moves.{judged, expected, string_move, scheme_move, end_of_id, after_value_move, is_next_of_id, goes_on_scheme, ends_scheme};
+//! How a text moves on by one byte: a method for each spot.
+ghost use Rattle.std.specs.Prelude.{◌≡◌, ◌<◌, ◌^◌, [], ◌∷◌, ◌++◌, length, true, None, IfOk};
+ghost use Rattle.jl_token.specs.Machine as machine;
+ghost use Rattle.jl_token.specs.NumberMachine as number;
+ghost use Rattle.jl_token.specs.StringMachine as string;
+ghost use Rattle.jl_token.specs.Left.{FormedAt};
+ghost use Rattle.jl_token.specs.Lexed.{HasNoText, HasOneText};
+ghost use Rattle.jl_token.specs.Moves.{MovesBy, Moves, stop_of};
 
-use super::spots::Spot;
-use super::states::LexState;
-use jl_model::{is_iri_byte, is_scheme_byte};
+use crate::kinds::{Kind, kind_of};
+use crate::names::Names;
+use crate::numbers::InNumber;
+use crate::opens::Open;
+use crate::readings::{Reading, Spot};
+use crate::steps::{LexStop, Sign, Signs};
+use crate::strings::{InString, StringStep};
+use crate::words::InWord;
+use jl_model::{Code, Fault, NoMemory};
+use std::alloc::Global;
 
-/// What a byte does to the state of a lexer.
-#[derive(Clone, Copy, Debug, PartialEq, Eq)]
-pub(crate) enum Move {
-    /// No flat text goes on with the byte.
-    Refuse,
-    /// The object begins.
-    Begin,
-    /// The byte stands between strings, and the next one at this spot.
-    Go(Spot),
-    /// A string begins, and the next byte stands at this spot.
-    Open(Spot),
-    /// The byte goes on the string, and the next one stands at this spot.
-    Hold(Spot),
-    /// The string was a key, and the next byte stands at this spot.
-    EndKey(Spot),
-    /// The string was a value.
-    EndValue,
-    /// The object ends.
-    Close,
+/// How many containers may be open at once.
+const DEPTH: usize = 256;
+
+/// Why a text doesn't move on.
+#[derive(Clone, Copy, Drop)]
+pub enum Halt {
+    /// A fault at the byte itself.
+    AtByte(Code),
+    /// A fault at the token that the byte would go on with.
+    AtToken(Code),
+    NoMemory,
 }
 
-/// What the byte does, but that a key which ends may come again. It takes no memory.
-#[inline(always)]
-pub(crate) fn judge(state: &LexState, byte: u8) -> Move
-    ensures { result ≡ judged state.now byte }
-{
-    match state.spot {
-        Spot::Start => expect(byte, b'{', Move::Begin),
-        Spot::IdQuote => expect(byte, b'"', Move::Open(Spot::Id)),
-        Spot::Id => judge_id(state.held.bytes(), byte),
-        Spot::IdColon => expect(byte, b':', Move::Go(Spot::SubjectQuote)),
-        Spot::SubjectQuote => expect(byte, b'"', Move::Open(Spot::SubjectScheme)),
-        Spot::SubjectScheme => {
-            judge_scheme(state.held.bytes(), byte, Spot::SubjectScheme, Spot::Subject)
+impl From<NoMemory> for Halt {
+    ghost use Rattle.jl_token.specs.declared.moves.Halt.TheVariants as halts;
+    ghost use Rattle.std.specs.Prelude.{◌≡◌};
+
+    ghost from_gives = { λ _ halt. halt ≡ halts.NoMemory };
+
+    fn from(_: NoMemory) -> Halt {
+        Halt::NoMemory
+    }
+}
+
+impl Halt {
+    /// What a lexer answers from then on, where the byte and the token have these places.
+    pub(crate) fn stop(self, at: u64, start: u64) -> LexStop
+        ensures { result ≡ stop_of self at start }
+    {
+        match self {
+            Halt::AtByte(code) => LexStop::Refused(Fault { code, at }),
+            Halt::AtToken(code) => LexStop::Refused(Fault { code, at: start }),
+            Halt::NoMemory => LexStop::NoMemory,
         }
-        Spot::Subject => judge_string(byte, is_plain_iri_byte(byte), Spot::Subject, Move::EndValue),
-        Spot::AfterValue => judge_after_value(byte),
-        Spot::KeyQuote => expect(byte, b'"', Move::Open(Spot::KeyScheme)),
-        Spot::KeyScheme => judge_scheme(state.held.bytes(), byte, Spot::KeyScheme, Spot::Key),
-        Spot::Key => judge_string(
-            byte,
-            is_plain_iri_byte(byte),
-            Spot::Key,
-            Move::EndKey(Spot::Colon),
-        ),
-        Spot::Colon => expect(byte, b':', Move::Go(Spot::ValueQuote)),
-        Spot::ValueQuote => expect(byte, b'"', Move::Open(Spot::Value)),
-        Spot::Value => judge_string(byte, is_plain_byte(byte), Spot::Value, Move::EndValue),
-        Spot::End => Move::Refuse,
     }
 }
 
-#[inline(always)]
-fn expect(byte: u8, wanted: u8, then: Move) -> Move
-    ensures { result ≡ expected byte wanted then }
-{
-    if byte == wanted { then } else { Move::Refuse }
-}
-
-#[inline(always)]
-fn judge_string(byte: u8, passes: bool, here: Spot, end: Move) -> Move
-    ensures { result ≡ string_move byte passes here end }
-{
-    if byte == b'"' {
-        end
-    } else if passes {
-        Move::Hold(here)
-    } else {
-        Move::Refuse
+impl Reading {
+    /// Goes on to the next byte.
+    fn go_on(&mut self, spot: Spot)
+        requires { self.old.at < 2 ^ 63 }
+        ensures { self.new ≡ machine.next self.old spot self.old.within }
+    {
+        self.at += 1;
+        self.spot = spot;
     }
-}
 
-fn judge_id(held: &[u8], byte: u8) -> Move
-    ensures { result ≡ string_move byte (is_next_of_id held.now byte) Spot.Id (end_of_id held.now) }
-{
-    judge_string(
-        byte,
-        is_next_byte_of_id(held, byte),
-        Spot::Id,
-        judge_end_of_id(held),
-    )
-}
-
-fn is_next_byte_of_id(held: &[u8], byte: u8) -> bool
-    ensures { result ≡ is_next_of_id held.now byte }
-{
-    match held {
-        [] => byte == b'@',
-        [_] => byte == b'i',
-        [_, _] => byte == b'd',
-        _ => false,
+    /// A token begins at the byte.
+    fn begin_token(&mut self, spot: Spot)
+        requires { self.old.at < 2 ^ 63 }
+        ensures { self.new ≡ machine.token_begins self.old spot [] }
+    {
+        self.start = self.at;
+        self.at += 1;
+        self.spot = spot;
+        self.part.clear();
     }
-}
 
-fn judge_end_of_id(held: &[u8]) -> Move
-    ensures { result ≡ end_of_id held.now }
-{
-    if held == b"@id".as_slice() {
-        Move::EndKey(Spot::IdColon)
-    } else {
-        Move::Refuse
+    /// A container opens at the byte.
+    fn open(&mut self, sign: Sign, spot: Spot, container: Open) -> Result<Sign, Halt>
+        requires room { self.old.at < 2 ^ 63 }
+        requires sign { sign ≡ machine.opening container }
+        ensures { MovesBy result self.old self.new (machine.opened 256 self.old (machine.opening_token container self.old.at) spot container) }
+    {
+        if self.within.len() >= DEPTH {
+            return Err(Halt::AtByte(Code::TooDeep));
+        }
+        self.within.push(container)?;
+        self.go_on(spot);
+        Ok(sign)
     }
-}
 
-fn judge_scheme(held: &[u8], byte: u8, here: Spot, behind: Spot) -> Move
-    ensures { result ≡ scheme_move held.now byte here behind }
-{
-    if is_next_byte_of_scheme(held, byte) {
-        Move::Hold(here)
-    } else if is_end_of_scheme(held, byte) {
-        Move::Hold(behind)
-    } else {
-        Move::Refuse
+    /// A number begins with this byte.
+    fn begin_number(&mut self, byte: u8, place: InNumber) -> Result<Sign, Halt>
+        requires { self.old.at < 2 ^ 63 }
+        ensures { MovesBy result self.old self.new (machine.begins_number self.old place byte) }
+    {
+        self.begin_token(Spot::InNumber(place));
+        self.part.push(byte)?;
+        Ok(Sign::Nothing)
     }
-}
 
-fn is_next_byte_of_scheme(held: &[u8], byte: u8) -> bool
-    ensures { result ≡ goes_on_scheme held.now byte }
-{
-    match held {
-        [] => byte.is_ascii_alphabetic(),
-        _ => is_scheme_byte(byte),
+    /// A value begins at the byte.
+    fn begin_value(&mut self, alloc: Global, byte: u8, kind: Kind) -> Result<Sign, Halt>
+        requires { self.old.at < 2 ^ 63 }
+        ensures { MovesBy result self.old self.new (machine.value_begins 256 self.old byte kind) }
+    {
+        match kind {
+            Kind::Quote => {
+                self.begin_token(Spot::InText(InString::Plain));
+                Ok(Sign::Nothing)
+            }
+            Kind::Minus => self.begin_number(byte, InNumber::Minus),
+            Kind::Zero => self.begin_number(byte, InNumber::Zero),
+            Kind::Digit => self.begin_number(byte, InNumber::Whole),
+            Kind::LetterN => {
+                self.begin_token(Spot::InWord(InWord::N));
+                Ok(Sign::Nothing)
+            }
+            Kind::LetterT => {
+                self.begin_token(Spot::InWord(InWord::T));
+                Ok(Sign::Nothing)
+            }
+            Kind::LetterF => {
+                self.begin_token(Spot::InWord(InWord::F));
+                Ok(Sign::Nothing)
+            }
+            Kind::OpenArray => self.open(Sign::OpenArray, Spot::FirstItem, Open::Array),
+            Kind::OpenObject => {
+                self.open(
+                    Sign::OpenObject,
+                    Spot::FirstKey,
+                    Open::Object(Names::empty(alloc)),
+                )
+            }
+            _ => Err(Halt::AtByte(Code::Syntax)),
+        }
     }
-}
 
-fn is_end_of_scheme(held: &[u8], byte: u8) -> bool
-    ensures { result ≡ ends_scheme held.now byte }
-{
-    match held {
-        [] => false,
-        _ => byte == b':',
+    fn at_value(&mut self, alloc: Global, byte: u8, kind: Kind) -> Result<Sign, Halt>
+        requires { self.old.at < 2 ^ 63 }
+        ensures { MovesBy result self.old self.new (machine.at_value 256 self.old byte kind) }
+    {
+        match kind {
+            Kind::Blank => {
+                self.go_on(Spot::Value);
+                Ok(Sign::Nothing)
+            }
+            _ => self.begin_value(alloc, byte, kind),
+        }
     }
-}
 
-/// Whether the byte may stand in the strings of a flat text.
-#[inline(always)]
-pub(crate) fn is_plain_byte(byte: u8) -> bool
-    ensures { result ≡ flat.is_plain byte }
-{
-    32 <= byte && byte <= 126 && byte != b'"' && byte != b'\\'
-}
-
-/// Whether the byte may stand behind the colon of a flat text's IRIs.
-#[inline(always)]
-pub(crate) fn is_plain_iri_byte(byte: u8) -> bool
-    ensures { result ≡ moves.is_plain_iri_byte byte }
-{
-    is_plain_byte(byte) && is_iri_byte(byte)
-}
-
-fn judge_after_value(byte: u8) -> Move
-    ensures { result ≡ after_value_move byte }
-{
-    if byte == b',' {
-        Move::Go(Spot::KeyQuote)
-    } else {
-        expect(byte, b'}', Move::Close)
+    fn close_array(&mut self) -> Result<Sign, Halt>
+        requires { self.old.at < 2 ^ 63 }
+        ensures moves { MovesBy result self.old self.new (machine.array_closes self.old self.old.within) }
+        ensures plain { IfOk result HasNoText }
+    {
+        match self.within.pop() {
+            Some(Open::Array) => {
+                self.go_on(Spot::After);
+                Ok(Sign::CloseArray)
+            }
+            Some(Open::Object(_)) => Err(Halt::AtByte(Code::Syntax)),
+            None => Err(Halt::AtByte(Code::Syntax)),
+        }
     }
-}
 
-/// Whether the move completes no token, and isn't a refusal.
-#[inline(always)]
-pub(crate) fn is_silent(made: Move) -> bool
-    ensures { result ≡ moves.is_silent made }
-{
-    matches!(made, Move::Go(_) | Move::Open(_) | Move::Hold(_))
+    fn close_object(&mut self) -> Result<Sign, Halt>
+        requires { self.old.at < 2 ^ 63 }
+        ensures moves { MovesBy result self.old self.new (machine.object_closes self.old self.old.within) }
+        ensures plain { IfOk result HasNoText }
+    {
+        match self.within.pop() {
+            Some(Open::Object(_)) => {
+                self.go_on(Spot::After);
+                Ok(Sign::CloseObject)
+            }
+            Some(Open::Array) => Err(Halt::AtByte(Code::Syntax)),
+            None => Err(Halt::AtByte(Code::Syntax)),
+        }
+    }
+
+    fn at_first_item(&mut self, alloc: Global, byte: u8, kind: Kind) -> Result<Sign, Halt>
+        requires { self.old.at < 2 ^ 63 }
+        ensures { MovesBy result self.old self.new (machine.at_first_item 256 self.old byte kind) }
+    {
+        match kind {
+            Kind::Blank => {
+                self.go_on(Spot::FirstItem);
+                Ok(Sign::Nothing)
+            }
+            Kind::CloseArray => self.close_array(),
+            _ => self.begin_value(alloc, byte, kind),
+        }
+    }
+
+    fn at_first_key(&mut self, kind: Kind) -> Result<Sign, Halt>
+        requires { self.old.at < 2 ^ 63 }
+        ensures { MovesBy result self.old self.new (machine.at_first_key self.old kind) }
+    {
+        match kind {
+            Kind::Blank => {
+                self.go_on(Spot::FirstKey);
+                Ok(Sign::Nothing)
+            }
+            Kind::CloseObject => self.close_object(),
+            Kind::Quote => {
+                self.begin_token(Spot::InKey(InString::Plain));
+                Ok(Sign::Nothing)
+            }
+            _ => Err(Halt::AtByte(Code::Syntax)),
+        }
+    }
+
+    fn at_key(&mut self, kind: Kind) -> Result<Sign, Halt>
+        requires { self.old.at < 2 ^ 63 }
+        ensures { MovesBy result self.old self.new (machine.at_key self.old kind) }
+    {
+        match kind {
+            Kind::Blank => {
+                self.go_on(Spot::Key);
+                Ok(Sign::Nothing)
+            }
+            Kind::Quote => {
+                self.begin_token(Spot::InKey(InString::Plain));
+                Ok(Sign::Nothing)
+            }
+            _ => Err(Halt::AtByte(Code::Syntax)),
+        }
+    }
+
+    fn at_colon(&mut self, kind: Kind) -> Result<Sign, Halt>
+        requires { self.old.at < 2 ^ 63 }
+        ensures { MovesBy result self.old self.new (machine.at_colon self.old kind) }
+    {
+        match kind {
+            Kind::Blank => {
+                self.go_on(Spot::Colon);
+                Ok(Sign::Nothing)
+            }
+            Kind::Colon => {
+                self.go_on(Spot::Value);
+                Ok(Sign::Nothing)
+            }
+            _ => Err(Halt::AtByte(Code::Syntax)),
+        }
+    }
+
+    fn comma(&mut self) -> Result<Sign, Halt>
+        requires { self.old.at < 2 ^ 63 }
+        ensures moves { MovesBy result self.old self.new (machine.comma self.old self.old.within) }
+        ensures plain { IfOk result HasNoText }
+    {
+        match self.within.innermost() {
+            Some(Open::Array) => {
+                self.go_on(Spot::Value);
+                Ok(Sign::Nothing)
+            }
+            Some(Open::Object(_)) => {
+                self.go_on(Spot::Key);
+                Ok(Sign::Nothing)
+            }
+            None => Err(Halt::AtByte(Code::Syntax)),
+        }
+    }
+
+    fn after_value(&mut self, kind: Kind) -> Result<Sign, Halt>
+        requires { self.old.at < 2 ^ 63 }
+        ensures moves { MovesBy result self.old self.new (machine.after_value self.old kind) }
+        ensures plain { IfOk result HasNoText }
+    {
+        match kind {
+            Kind::Blank => {
+                self.go_on(Spot::After);
+                Ok(Sign::Nothing)
+            }
+            Kind::CloseArray => self.close_array(),
+            Kind::CloseObject => self.close_object(),
+            Kind::Comma => self.comma(),
+            _ => Err(Halt::AtByte(Code::Syntax)),
+        }
+    }
+
+    /// A number ended before the byte.
+    fn end_number(&mut self, kind: Kind) -> Result<Signs, Halt>
+        requires { self.old.at < 2 ^ 63 }
+        ensures moves { Moves result self.old self.new (machine.number_ends true self.old kind) }
+        ensures texts { IfOk result (λ signs. HasOneText signs.number signs.sign) }
+    {
+        self.spot = Spot::After;
+        let sign = self.after_value(kind)?;
+        Ok(Signs { number: true, sign })
+    }
+
+    fn in_number(&mut self, place: InNumber, byte: u8) -> Result<Signs, Halt>
+        requires { self.old.at < 2 ^ 63 }
+        ensures moves { Moves result self.old self.new (machine.in_number place self.old byte (machine.kind_of byte)) }
+        ensures texts { IfOk result (λ signs. HasOneText signs.number signs.sign) }
+    {
+        match place.next(byte) {
+            Some(to) => {
+                self.part.push(byte)?;
+                self.go_on(Spot::InNumber(to));
+                Ok(Signs {
+                    number: false,
+                    sign: Sign::Nothing,
+                })
+            }
+            None => {
+                if place.is_whole() {
+                    return self.end_number(kind_of(byte));
+                }
+                Err(Halt::AtToken(Code::Syntax))
+            }
+        }
+    }
+
+    fn in_word(&mut self, place: InWord, byte: u8) -> Result<Sign, Halt>
+        requires { self.old.at < 2 ^ 63 }
+        ensures { MovesBy result self.old self.new (machine.in_word place self.old byte) }
+    {
+        if byte != place.next_letter() {
+            return Err(Halt::AtToken(Code::Syntax));
+        }
+        match place.next() {
+            Some(to) => {
+                self.go_on(Spot::InWord(to));
+                Ok(Sign::Nothing)
+            }
+            None => {
+                self.go_on(Spot::After);
+                Ok(place.sign())
+            }
+        }
+    }
+
+    fn in_text(&mut self, place: InString, byte: u8) -> Result<Sign, Halt>
+        requires room { self.old.at < 2 ^ 63 }
+        requires formed { string.InFormed place }
+        ensures { MovesBy result self.old self.new (machine.in_text place self.old byte) }
+    {
+        match place.read(&mut self.part, byte)? {
+            StringStep::Bad => Err(Halt::AtToken(place.code_of(byte))),
+            StringStep::Ends => {
+                self.go_on(Spot::After);
+                Ok(Sign::Text)
+            }
+            StringStep::Stays(to) => {
+                self.go_on(Spot::InText(to));
+                Ok(Sign::Nothing)
+            }
+        }
+    }
+
+    /// A name ends at the byte.
+    fn end_key(&mut self, alloc: Global) -> Result<Sign, Halt>
+        requires { self.old.at < 2 ^ 63 }
+        ensures { MovesBy result self.old self.new (machine.key_ends true self.old self.old.within) }
+    {
+        match self.within.pop() {
+            Some(Open::Object(mut names)) => {
+                let Ok(name) = Vec::from_slice(alloc, self.part.bytes()) else {
+                    return Err(Halt::NoMemory);
+                };
+                if !names.add(name)? {
+                    return Err(Halt::AtToken(Code::DuplicateKey));
+                }
+                self.within.push(Open::Object(names))?;
+                self.go_on(Spot::Colon);
+                Ok(Sign::Key)
+            }
+            Some(Open::Array) => Err(Halt::AtToken(Code::Syntax)),
+            None => Err(Halt::AtToken(Code::Syntax)),
+        }
+    }
+
+    fn in_key(&mut self, alloc: Global, place: InString, byte: u8) -> Result<Sign, Halt>
+        requires room { self.old.at < 2 ^ 63 }
+        requires formed { string.InFormed place }
+        ensures { MovesBy result self.old self.new (machine.in_key true place self.old byte) }
+    {
+        match place.read(&mut self.part, byte)? {
+            StringStep::Bad => Err(Halt::AtToken(place.code_of(byte))),
+            StringStep::Ends => self.end_key(alloc),
+            StringStep::Stays(to) => {
+                self.go_on(Spot::InKey(to));
+                Ok(Sign::Nothing)
+            }
+        }
+    }
+
+    /// The moves that give no number.
+    fn move_by(&mut self, alloc: Global, byte: u8) -> Result<Sign, Halt>
+        requires room { self.old.at < 2 ^ 63 }
+        requires formed { FormedAt self.old.spot self.old.within }
+        requires spot { machine.number_place self.old.spot ≡ None }
+        ensures { MovesBy result self.old self.new (machine.moved_at true 256 self.old.spot self.old byte) }
+    {
+        match self.spot {
+            Spot::InText(place) => self.in_text(place, byte),
+            Spot::InKey(place) => self.in_key(alloc, place, byte),
+            Spot::Value => self.at_value(alloc, byte, kind_of(byte)),
+            Spot::FirstItem => self.at_first_item(alloc, byte, kind_of(byte)),
+            Spot::FirstKey => self.at_first_key(kind_of(byte)),
+            Spot::Key => self.at_key(kind_of(byte)),
+            Spot::Colon => self.at_colon(kind_of(byte)),
+            Spot::After => self.after_value(kind_of(byte)),
+            Spot::InWord(place) => self.in_word(place, byte),
+            Spot::InNumber(_) => unreachable!(),
+        }
+    }
+
+    /// Takes a byte.
+    #[tactic(auto, unfolding(crate::specs::Machine::moved))]
+    pub(crate) fn move_on(&mut self, alloc: Global, byte: u8) -> Result<Signs, Halt>
+        requires room { self.old.at < 2 ^ 63 }
+        requires formed { FormedAt self.old.spot self.old.within }
+        ensures moves { Moves result self.old self.new (machine.moved true 256 self.old byte) }
+        ensures texts { IfOk result (λ signs. HasOneText signs.number signs.sign) }
+    {
+        if let Spot::InNumber(place) = self.spot {
+            return self.in_number(place, byte);
+        }
+        let sign = self.move_by(alloc, byte)?;
+        Ok(Signs {
+            number: false,
+            sign,
+        })
+    }
 }

@@ -1,6 +1,5 @@
 //! The names of the keys of an object.
-ghost use Rattle.std.specs.Prelude.{◌≡◌, ◌↔◌, ◌-◌, ◌^◌, [], not, IsTrue, IfOk, OnOk, OnErr, min};
-ghost use Rattle.std.specs.Bool.{OnFalse};
+ghost use Rattle.std.specs.Prelude.{◌≡◌, ◌-◌, ◌^◌, [], IfOk, OnOk, OnErr, min, not};
 ghost use Rattle.std.specs.List.{list_any};
 ghost use Rattle.std.specs.Str.{bytes_eq};
 ghost use Rattle.jl_token.specs.Names.{with_name, names_len};
@@ -41,25 +40,10 @@ impl Names {
         }
     }
 
-    /// Whether there are none.
-    pub fn is_empty(&self) -> bool
-        ensures { IsTrue result ↔ (self.now ≡ []) }
-    {
-        self.texts.is_empty()
-    }
-
-    /// Whether the name is among them.
-    pub fn has(&self, name: &[u8]) -> bool
-        ensures { result ≡ list_any (bytes_eq name.now) self.now }
-    {
-        self.texts.contains(name)
-    }
-
-    /// Adds a name, unless it is among them, and answers whether it is new.
-    pub fn insert(&mut self, name: Vec<u8>) -> Result<bool, NoMemory>
+    /// Adds a name, unless it is among them, and says whether it was new.
+    pub fn add(&mut self, name: Vec<u8>) -> Result<bool, NoMemory>
         ensures added { IfOk result (λ added. added ≡ not (list_any (bytes_eq name.items) self.old)) }
-        ensures ok { OnOk result (self.new ≡ with_name self.old name.items) }
-        ensures kept { IfOk result (λ added. OnFalse added (self.new ≡ self.old)) }
+        ensures names { OnOk result (self.new ≡ with_name self.old name.items) }
         ensures err { OnErr result (self.new ≡ self.old) }
     {
         let len = name.len() as u64;

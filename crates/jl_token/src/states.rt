@@ -1,23 +1,38 @@
 //! What a lexer keeps.
 
-use super::names::Names;
-use super::spots::Spot;
-use super::tokens::LexStop;
-use jl_model::Text;
+ghost use Rattle.std.specs.Prelude.{◌≡◌, Some, IsTrue, ◌↔◌};
+ghost use Rattle.jl_token.specs.Lexed.{IsFormed};
 
-/// All that a lexer keeps. A state that meets the rule of form can be made into a lexer again.
+use crate::readings::Reading;
+use crate::steps::LexStop;
+
+/// All that a lexer keeps.
 #[derive(Debug, Drop)]
 pub struct LexState {
-    /// The place of the next byte.
-    pub at: u64,
-    /// Where in a flat text that byte stands.
-    pub spot: Spot,
-    /// The place of the opening quote of the string being read, or of the one read last.
-    pub opened: u64,
-    /// The bytes of the string being read, without its quotes.
-    pub held: Text,
-    /// The names of the open object's keys.
-    pub names: Names,
-    /// Why the lexer stopped.
+    pub reading: Reading,
+    /// The error that it answers from now on.
     pub stopped: Option<LexStop>,
+    /// Whether `finish` has answered Ok.
+    pub ended: bool,
+}
+
+impl LexState {
+    /// Stops with this error from now on.
+    pub(crate) fn stop(&mut self, stop: LexStop) -> LexStop
+        ensures stop { result ≡ stop }
+        ensures state { self.new ≡ record self.old { stopped = Some stop } }
+    {
+        self.stopped = Some(stop);
+        stop
+    }
+
+    /// Whether it is of the form that a lexer keeps.
+    pub(crate) fn is_formed(&self) -> bool
+        ensures { IsTrue result ↔ IsFormed self.now }
+    {
+        match self.stopped {
+            Some(_) => true,
+            None => self.reading.is_formed(),
+        }
+    }
 }

@@ -7,12 +7,12 @@ use Rattle.jl_model.specs.Flat.{Flat, Begins}
 use Rattle.jl_model.specs.Parts.{Parts}
 use Rattle.jl_model.specs.declared.codes.Code.{Code}
 use Rattle.jl_model.specs.declared.codes.Code.TheVariants.{Truncated}
-use Rattle.jl_token.specs.Refusals.{IsRefused, IsRefusedFor, IsEndRefused, IsEndRefusedFor}
-use Rattle.jl_token.specs.Rest.{Lexed, Reads}
-use Rattle.jl_token.specs.declared.states.LexState.{LexState}
-use Rattle.jl_token.specs.declared.tokens.LexStop.{LexStop}
-use Rattle.jl_token.specs.declared.tokens.LexStop.TheVariants as lexing
-use Rattle.jl_token.specs.declared.tokens.Token.{Token}
+use Rattle.jl_flat_token.specs.Refusals.{IsRefused, IsRefusedFor, IsEndRefused, IsEndRefusedFor}
+use Rattle.jl_flat_token.specs.Rest.{Lexed, Reads}
+use Rattle.jl_flat_token.specs.declared.states.LexState.{LexState}
+use Rattle.jl_flat_token.specs.declared.tokens.LexStop.{LexStop}
+use Rattle.jl_flat_token.specs.declared.tokens.LexStop.TheVariants as lexing
+use Rattle.jl_flat_token.specs.declared.tokens.Token.{Token}
 use Rattle.jl_top.specs.Reading.{AreSure, Keeps, HasRead, Fed, StopCause, Stopped, EndCauseFor, EndCause, MaySay, Says, SaysSome}
 use Rattle.jl_top.specs.Said.{saying, said_by, nothing_said}
 use Rattle.jl_top.specs.Stops.{stop_for}

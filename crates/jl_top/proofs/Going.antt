@@ -7,7 +7,7 @@ use Rattle.jl_model.specs.Flat.{Begins}
 use Rattle.jl_model.specs.Parts.{Parts}
 use Rattle.jl_model.specs.declared.codes.Code.{Code}
 use Rattle.jl_model.specs.declared.codes.Code.TheVariants.{Truncated, TooLong, NotYet}
-use Rattle.jl_token.specs.Refusals.{IsRefusedFor}
+use Rattle.jl_flat_token.specs.Refusals.{IsRefusedFor}
 use Rattle.jl_top.specs.Blocks.{held_of, CountsLines, IsEmptyBlock, line_count}
 use Rattle.jl_top.specs.LineOuts.{TellsLines}
 use Rattle.jl_top.specs.Pieces.{PutsLines, FedLines, StoppedLines, is_out_fault}

@@ -5,8 +5,8 @@ use Rattle.jl_model.specs.Parts.{Parts}
 use Rattle.jl_model.specs.Flat.{quad_of}
 use Rattle.jl_model.specs.declared.scalars.Scalar.{Scalar}
 use Rattle.jl_model.specs.declared.scalars.Scalar.TheVariants as scalar
-use Rattle.jl_token.specs.declared.tokens.Token.{Token}
-use Rattle.jl_token.specs.declared.tokens.Token.TheVariants.{Value}
+use Rattle.jl_flat_token.specs.declared.tokens.Token.{Token}
+use Rattle.jl_flat_token.specs.declared.tokens.Token.TheVariants.{Value}
 use Rattle.jl_top.specs.Reading.{WerePut, Keeps, CanSayAll, Says, SaysSome, SaysString, MaySay}
 use Rattle.jl_top.specs.Said.{Said, string_said, scalar_said, saying}
 use Rattle.jl_top.specs.declared.flat_readers.FlatReader.{FlatReader}

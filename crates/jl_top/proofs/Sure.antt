@@ -9,13 +9,13 @@ use Rattle.jl_model.specs.Flat.{Flat, Accepts, Begins, Pair, is_plain, is_plain_
 use Rattle.jl_model.specs.Iris.{IsIri, has_iri_form}
 use Rattle.jl_model.specs.Parts.{Parts, AreWellFormed, xsd_string}
 use Rattle.jl_model.specs.declared.scalars.Scalar.TheVariants as scalar
-use Rattle.jl_token.proofs.FlatLaws.{reads_flat, flat_reads}
-use Rattle.jl_token.specs.FlatTokens.{pair_tokens, flat_tokens, IsReading}
-use Rattle.jl_token.specs.Refusals.{BeginNothing}
-use Rattle.jl_token.specs.Rest.{Reads, Lexed}
-use Rattle.jl_token.specs.declared.states.LexState.{LexState}
-use Rattle.jl_token.specs.declared.tokens.Token.{Token}
-use Rattle.jl_token.specs.declared.tokens.Token.TheVariants.{Value}
+use Rattle.jl_flat_token.proofs.FlatLaws.{reads_flat, flat_reads}
+use Rattle.jl_flat_token.specs.FlatTokens.{pair_tokens, flat_tokens, IsReading}
+use Rattle.jl_flat_token.specs.Refusals.{BeginNothing}
+use Rattle.jl_flat_token.specs.Rest.{Reads, Lexed}
+use Rattle.jl_flat_token.specs.declared.states.LexState.{LexState}
+use Rattle.jl_flat_token.specs.declared.tokens.Token.{Token}
+use Rattle.jl_flat_token.specs.declared.tokens.Token.TheVariants.{Value}
 use Rattle.jl_top.specs.Reading.{AreSure, CanSayString, CanSay, CanSayAll}
 use Rattle.jl_top.specs.Said.{Said, string_said, saying, said_by, nothing_said}
 use Rattle.jl_top.proofs.Saying.{says_grow}

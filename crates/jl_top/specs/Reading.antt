@@ -7,10 +7,10 @@ use Rattle.jl_model.specs.declared.codes.Code.TheVariants.{Truncated}
 use Rattle.jl_model.specs.declared.faults.Fault.{Fault}
 use Rattle.jl_model.specs.declared.scalars.Scalar.{Scalar}
 use Rattle.jl_model.specs.declared.scalars.Scalar.TheVariants.{Str}
-use Rattle.jl_token.specs.Refusals.{IsRefusedFor}
-use Rattle.jl_token.specs.Rest.{Lexed}
-use Rattle.jl_token.specs.declared.tokens.Token.{Token}
-use Rattle.jl_token.specs.declared.tokens.Token.TheVariants.{Value}
+use Rattle.jl_flat_token.specs.Refusals.{IsRefusedFor}
+use Rattle.jl_flat_token.specs.Rest.{Lexed}
+use Rattle.jl_flat_token.specs.declared.tokens.Token.{Token}
+use Rattle.jl_flat_token.specs.declared.tokens.Token.TheVariants.{Value}
 use Rattle.jl_top.specs.Said.{Said, said_by, saying, string_said}
 use Rattle.jl_top.specs.declared.flat_readers.FlatReader.{FlatReader}
 use Rattle.jl_top.specs.declared.stops.Stop.{Stop}

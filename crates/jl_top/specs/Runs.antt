@@ -6,7 +6,7 @@ use Rattle.jl_model.specs.Lines.{line}
 use Rattle.jl_model.specs.Parts.{Parts}
 use Rattle.jl_model.specs.declared.codes.Code.{Code}
 use Rattle.jl_model.specs.declared.codes.Code.TheVariants.{Truncated, TooLong, NotYet}
-use Rattle.jl_token.specs.Places.{fault_place}
+use Rattle.jl_flat_token.specs.Places.{fault_place}
 use Rattle.jl_top.specs.Blocks.{held_of, CountsLines}
 use Rattle.jl_top.specs.LineOuts.{TellsLines}
 use Rattle.jl_top.specs.Pieces.{PutsLines}

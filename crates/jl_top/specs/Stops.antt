@@ -1,6 +1,6 @@
 -- Stops, as they are handed on.
-use Rattle.jl_token.specs.declared.tokens.LexStop.{LexStop}
-use Rattle.jl_token.specs.declared.tokens.LexStop.TheVariants as lexing
+use Rattle.jl_flat_token.specs.declared.tokens.LexStop.{LexStop}
+use Rattle.jl_flat_token.specs.declared.tokens.LexStop.TheVariants as lexing
 use Rattle.jl_top.specs.declared.stops.Stop.{Stop}
 use Rattle.jl_top.specs.declared.stops.Stop.TheVariants.{Refused, NoMemory}
 

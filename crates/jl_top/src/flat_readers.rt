@@ -5,8 +5,8 @@ ghost use Rattle.jl_model.specs.Flat.{Flat, quad_of};
 ghost use Rattle.jl_model.specs.Parts.{Parts, AreWellFormed};
 
 use super::stops::Stop;
+use jl_flat_token::{LexStop, Lexer, Step, Token};
 use jl_model::{Lit, OutStop, Quad, QuadOut, Scalar, Term, Text};
-use jl_token::{LexStop, Lexer, Step, Token};
 use std::alloc::Global;
 
 /// A flat text that is being read. Quads are put as soon as they are sure.
@@ -20,7 +20,7 @@ pub struct FlatReader {
 }
 
 impl FlatReader {
-    ghost use Rattle.jl_token.specs.After.{tokens_in};
+    ghost use Rattle.jl_flat_token.specs.After.{tokens_in};
     ghost use Rattle.jl_top.specs.Reading.{HasRead, HasBegun, Fed, Stopped, EndCause, Keeps, MaySay, Says, SaysSome, CanSayString, WerePut};
     ghost use Rattle.jl_top.specs.Said.{Said, string_said};
 

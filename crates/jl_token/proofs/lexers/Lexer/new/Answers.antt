@@ -1,6 +1,6 @@
-use Rattle.std.proofs.Common.{refl}
-use Rattle.jl_token.proofs.Steps.{lexed_start}
+use Rattle.std.proofs.Common.{refl, None, false}
+use Rattle.jl_token.proofs.LexerCalls.{new_stands}
 use Rattle.jl_token.proofs.lexers.Lexer.new.Goals as goal
 
-pub returns : goal.returns
-returns c = lexed_start c.args.start _ refl refl refl (record { no_bytes = c.empty.ensures; no_names = c.empty-2.ensures })
+pub returns-clause-empty : goal.returns-clause-empty
+returns-clause-empty c = new_stands c.args.start (record { reading = c.new.result; stopped = None; ended = false }) c.new.ensures refl

@@ -1,27 +1,18 @@
-use Rattle.std.proofs.Common.{sym, ap, ◌∙◌, Some, take}
-use Rattle.jl_token.specs.Runs.{after_run}
-use Rattle.jl_token.specs.declared.tokens.LexStop.TheVariants.{NoMemory}
-use Rattle.jl_token.proofs.Keeps.{formed_stopped}
-use Rattle.jl_token.proofs.RunSteps.{passed_formed, ran, ran_formed, ran_read}
+use Rattle.std.proofs.Common.{rules, arith, ◌≤◌, subst, take}
+use Rattle.jl_token.specs.declared.states.LexState.{LexState}
+use Rattle.jl_token.specs.Runs.{plain_len, Runs}
+use Rattle.jl_token.proofs.PlainRuns.{runs, first_plain, take_len, plain_len_le}
 use Rattle.jl_token.proofs.lexers.Lexer.run.Goals as goal
 
-pub invariant_of-self : goal.invariant_of-self
-invariant_of-self c =
-    ran_formed c.self.inside.state c.read_silent.new.state c.args.piece.now c.before_limit-front.result.now c.in-Ok.len c.before_limit-front.ensures c.self.invariant c.in-Ok.ensures.len c.in-Ok.ensures.state
+pub slice_bounds-run-end : goal.slice_bounds-run-end
+slice_bounds-run-end c = take_len c.min-count.result c.args.bytes.now (omega (arith, c.min-count.ensures, c.plain_len.ensures, plain_len_le c.args.bytes.now))
 
-pub invariant_of-self-in-Err : goal.invariant_of-self-in-Err
-invariant_of-self-in-Err c =
-    formed_stopped c.read_silent.new.state (Some NoMemory) (passed_formed c.self.inside.state c.read_silent.new.state c.args.piece.now c.before_limit-front.result.now c.before_limit-front.ensures c.self.invariant c.in-Err.ensures.err)
+pub returns-in-Ok-clause-runs : goal.returns-in-Ok-clause-runs
+returns-in-Ok-clause-runs c =
+    let new : LexState = record { reading = c.run.new.self; stopped = c.self.inside.state.stopped; ended = c.self.inside.state.ended } in
+    let few : c.min-count.result ≤ plain_len c.args.bytes.now = omega (arith, c.min-count.ensures, c.plain_len.ensures) in
+    subst (λ (s : LexState). Runs s new (take c.min-count.result c.args.bytes.now)) c.self.view_is
+    (runs c.self.inside.state new (take c.min-count.result c.args.bytes.now) (first_plain c.min-count.result c.args.bytes.now few) (search rules) (search rules) (search rules))
 
-pub returns-in-Ok-clause-within : goal.returns-in-Ok-clause-within
-returns-in-Ok-clause-within c =
-    (ran c.self.inside.state c.read_silent.new.state c.args.piece.now c.before_limit-front.result.now c.in-Ok.len c.before_limit-front.ensures c.self.invariant c.in-Ok.ensures.len c.in-Ok.ensures.state).0
-
-pub returns-in-Ok-clause-state : goal.returns-in-Ok-clause-state
-returns-in-Ok-clause-state c =
-    (ran c.self.inside.state c.read_silent.new.state c.args.piece.now c.before_limit-front.result.now c.in-Ok.len c.before_limit-front.ensures c.self.invariant c.in-Ok.ensures.len c.in-Ok.ensures.state).1
-    ∙ ap (λ s. after_run s (take c.in-Ok.len c.args.piece.now)) c.self.view_is
-
-pub returns-in-Ok-clause-read : goal.returns-in-Ok-clause-read
-returns-in-Ok-clause-read c =
-    ran_read c.args.self.now c.self.inside.state c.read_silent.new.state c.args.piece.now c.before_limit-front.result.now c.in-Ok.len (sym c.self.view_is) c.before_limit-front.ensures c.self.invariant c.in-Ok.ensures.len c.in-Ok.ensures.state
+pub returns-in-Ok-clause-bound : goal.returns-in-Ok-clause-bound
+returns-in-Ok-clause-bound c = omega (arith, c.min-count.ensures, c.plain_len.ensures, plain_len_le c.args.bytes.now)

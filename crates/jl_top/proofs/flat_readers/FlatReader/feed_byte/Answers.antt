@@ -1,6 +1,6 @@
 use Rattle.std.proofs.Common.{refl, subst, sym, ◌++◌, ◌∷◌, []}
-use Rattle.jl_token.specs.After.{tokens_in}
-use Rattle.jl_token.specs.Rest.{Lexed}
+use Rattle.jl_flat_token.specs.After.{tokens_in}
+use Rattle.jl_flat_token.specs.Rest.{Lexed}
 use Rattle.jl_top.specs.Reading.{Stopped}
 use Rattle.jl_top.specs.Said.{said_by}
 use Rattle.jl_top.proofs.Fronts.{on_ok, if_err}

@@ -1,5 +1,5 @@
 use Rattle.std.proofs.Common.{subst, sym, ◌∷◌, [], ap, ◌∙◌}
-use Rattle.jl_token.specs.declared.tokens.Token.TheVariants.{Value}
+use Rattle.jl_flat_token.specs.declared.tokens.Token.TheVariants.{Value}
 use Rattle.jl_top.specs.Reading.{Says}
 use Rattle.jl_top.proofs.Fronts.{on_ok}
 use Rattle.jl_top.proofs.Saying.{token_said}

@@ -1,7 +1,7 @@
 use Rattle.std.proofs.Common.{subst, sym, OnOk, option_to_list, Option}
 use Rattle.jl_top.specs.Reading.{Says, Keeps}
 use Rattle.jl_top.specs.Said.{Said}
-use Rattle.jl_token.specs.declared.tokens.Token.{Token}
+use Rattle.jl_flat_token.specs.declared.tokens.Token.{Token}
 use Rattle.jl_top.proofs.flat_readers.FlatReader.say_some.Goals as goal
 
 pub returns-in-Some-clause-says : goal.returns-in-Some-clause-says

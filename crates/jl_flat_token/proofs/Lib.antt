@@ -1,0 +1,16 @@
+pub mod NamesAmong
+pub mod IriForms
+pub mod PlainTexts
+pub mod HeldStrings
+pub mod PieceSteps
+pub mod MoveCases
+pub mod Goes
+pub mod Comes
+pub mod Keeps
+pub mod GoesOn
+pub mod CheckedMoves
+pub mod Steps
+pub mod StepCalls
+pub mod RunSteps
+pub mod NewKeys
+pub mod FlatLaws

@@ -1,0 +1,11 @@
+pub mod Pieces
+pub mod Rest
+pub mod Places
+pub mod Refusals
+pub mod FlatTokens
+pub mod Names
+pub mod Moves
+pub mod After
+pub mod Formed
+pub mod Runs
+pub mod Kept

@@ -1,0 +1,377 @@
+//! What the lexer makes of small texts, however they are cut.
+ghost use Rattle.std.specs.Prelude.{◌≡◌, false};
+
+use crate::{LexStop, Lexer, Token};
+use jl_model::{Code, Scalar};
+use std::alloc::{AllocError, Global};
+use std::process::Abort;
+use std::test::Fail;
+
+/// Writes a byte string, whose bytes needn't be UTF-8.
+fn show_bytes(out: &mut String, bytes: &[u8]) -> Result<(), AllocError> {
+    match std::str::from_utf8(bytes) {
+        Ok(text) => out.push_str(text),
+        Err(_) => out.push_str("?"),
+    }
+}
+
+fn show_scalar(out: &mut String, scalar: &Scalar) -> Result<(), AllocError> {
+    match scalar {
+        Scalar::Null => out.push_str("null"),
+        Scalar::Bool(true) => out.push_str("true"),
+        Scalar::Bool(false) => out.push_str("false"),
+        Scalar::Number(text) => {
+            out.push_str("#")?;
+            show_bytes(out, text.bytes())
+        }
+        Scalar::Str(text) => {
+            out.push_str("'")?;
+            show_bytes(out, text.bytes())
+        }
+    }
+}
+
+fn show_place(out: &mut String, mark: &str, at: u64) -> Result<(), AllocError> {
+    out.push_str(mark)?;
+    write!(out, "{at} ")
+}
+
+fn show_token(out: &mut String, token: &Token) -> Result<(), AllocError> {
+    match token {
+        Token::OpenObject { at } => show_place(out, "{", *at),
+        Token::CloseObject { at } => show_place(out, "}", *at),
+        Token::OpenArray { at } => show_place(out, "[", *at),
+        Token::CloseArray { at } => show_place(out, "]", *at),
+        Token::Key { at, name } => {
+            show_bytes(out, name.bytes())?;
+            show_place(out, ":", *at)
+        }
+        Token::Value { at, scalar } => {
+            show_scalar(out, scalar)?;
+            show_place(out, "@", *at)
+        }
+    }
+}
+
+fn show_some(out: &mut String, token: &Option<Token>) -> Result<(), AllocError> {
+    match token {
+        Some(token) => show_token(out, token),
+        None => Ok(()),
+    }
+}
+
+fn code_name(code: Code) -> &'static str {
+    match code {
+        Code::Syntax => "syntax",
+        Code::Utf8 => "utf8",
+        Code::Truncated => "truncated",
+        Code::DuplicateKey => "duplicate key",
+        Code::TooDeep => "too deep",
+        Code::TooLong => "too long",
+        _ => "another code",
+    }
+}
+
+fn show_stop(out: &mut String, stop: LexStop) -> Result<(), AllocError> {
+    match stop {
+        LexStop::Refused(fault) => {
+            let name = code_name(fault.code);
+            let at = fault.at;
+            write!(out, "{name} at {at}")
+        }
+        LexStop::NoMemory => out.push_str("no memory"),
+    }
+}
+
+/// Gives a piece to the lexer, by runs and single bytes. Says whether it goes on.
+fn feed(
+    lexer: &mut Lexer,
+    alloc: Global,
+    piece: &[u8],
+    by_runs: bool,
+    out: &mut String,
+) -> Result<bool, AllocError>
+    requires { lexer.old.ended ≡ false }
+    ensures { lexer.new.ended ≡ false }
+{
+    let mut next = 0;
+    while next < piece.len() {
+        if by_runs {
+            let Ok(count) = lexer.run(&piece[next..]) else {
+                return Ok(false);
+            };
+            next += count;
+            if next >= piece.len() {
+                break;
+            }
+        }
+        match lexer.step(alloc, piece[next]) {
+            Ok(step) => {
+                show_some(out, &step.first)?;
+                show_some(out, &step.second)?;
+            }
+            Err(stop) => {
+                show_stop(out, stop)?;
+                return Ok(false);
+            }
+        }
+        next += 1;
+    }
+    Ok(true)
+}
+
+/// What the lexer makes of a text that comes in two pieces.
+fn read_cut(alloc: Global, text: &[u8], cut: usize, by_runs: bool) -> Result<String, AllocError> {
+    let mut out = String::new(alloc);
+    let mut lexer = Lexer::new(alloc, 0);
+    let cut = cut.min(text.len());
+    if !feed(&mut lexer, alloc, &text[..cut], by_runs, &mut out)? {
+        return Ok(out);
+    }
+    if !feed(&mut lexer, alloc, &text[cut..], by_runs, &mut out)? {
+        return Ok(out);
+    }
+    match lexer.finish(alloc) {
+        Ok(token) => show_some(&mut out, &token)?,
+        Err(stop) => show_stop(&mut out, stop)?,
+    }
+    Ok(out)
+}
+
+/// Reads the text byte by byte, whole and cut at each place, and compares what was read.
+fn check(rt: &impl Abort, alloc: Global, text: &[u8], want: &str) -> Result<(), Fail> {
+    let bytes = read_cut(alloc, text, 0, false)?;
+    assert_eq!(rt; bytes.as_str(), want, "by bytes: {text:?}");
+    for cut in 0..text.len() {
+        let cut_text = read_cut(alloc, text, cut, true)?;
+        assert_eq!(rt; cut_text.as_str(), want, "cut at {cut}: {text:?}");
+    }
+    Ok(())
+}
+
+#[test]
+fn numbers(rt: HostRuntime) -> Result<(), Fail> {
+    let rows: [(&[u8], &str); 24] = [
+        (b"0", "#0@0 "),
+        (b"-0", "#-0@0 "),
+        (b"12", "#12@0 "),
+        (b"1.50", "#1.50@0 "),
+        (b"1e5", "#1e5@0 "),
+        (b"1E+5", "#1E+5@0 "),
+        (b"-1.25e-10", "#-1.25e-10@0 "),
+        (b"0.0e0", "#0.0e0@0 "),
+        (b"[1,-2]", "[0 #1@1 #-2@3 ]5 "),
+        (b"01", "syntax at 1"),
+        (b"[01]", "[0 syntax at 2"),
+        (b"-01", "syntax at 2"),
+        (b"1.", "truncated at 2"),
+        (b"[1.]", "[0 syntax at 1"),
+        (b"-", "truncated at 1"),
+        (b"-a", "syntax at 0"),
+        (b"--1", "syntax at 0"),
+        (b"1e", "truncated at 2"),
+        (b"1ex", "syntax at 0"),
+        (b"1e+]", "syntax at 0"),
+        (b"+1", "syntax at 0"),
+        (b".5", "syntax at 0"),
+        (b"1.2.3", "syntax at 3"),
+        (b"1 2", "#1@0 syntax at 2"),
+    ];
+    for (text, want) in rows {
+        check(&rt, rt.alloc(), text, want)?;
+    }
+    Ok(())
+}
+
+#[test]
+fn words(rt: HostRuntime) -> Result<(), Fail> {
+    let rows: [(&[u8], &str); 10] = [
+        (b"null", "null@0 "),
+        (b" true ", "true@1 "),
+        (b"false", "false@0 "),
+        (b"[true,false,null]", "[0 true@1 false@6 null@12 ]16 "),
+        (b"nul", "truncated at 3"),
+        (b"nulx", "syntax at 0"),
+        (b"[nan]", "[0 syntax at 1"),
+        (b"truex", "true@0 syntax at 4"),
+        (b"tru e", "syntax at 0"),
+        (b"True", "syntax at 0"),
+    ];
+    for (text, want) in rows {
+        check(&rt, rt.alloc(), text, want)?;
+    }
+    Ok(())
+}
+
+#[test]
+fn strings(rt: HostRuntime) -> Result<(), Fail> {
+    let rows: [(&[u8], &str); 22] = [
+        (b"\"\"", "'@0 "),
+        (b"\"a b\"", "'a b@0 "),
+        (
+            b"\"\\\"\\\\\\/\\b\\f\\n\\r\\t\"",
+            "'\"\\/\u{8}\u{c}\n\r\t@0 ",
+        ),
+        (b"\"\\u0041\\u00e9\\u20AC\"", "'A\u{e9}\u{20ac}@0 "),
+        (b"\"\\ud83d\\ude00\"", "'\u{1f600}@0 "),
+        (b"\"\\uD83D\\uDE00x\"", "'\u{1f600}x@0 "),
+        (
+            b"\"\xc3\xa9\xe2\x82\xac\xf0\x9f\x98\x80\"",
+            "'\u{e9}\u{20ac}\u{1f600}@0 ",
+        ),
+        (b"\"\x7f\"", "'\u{7f}@0 "),
+        (b"\"\\ud83d\"", "syntax at 0"),
+        (b"\"\\ud83dx\"", "syntax at 0"),
+        (b"\"\\ud83d\\n\"", "syntax at 0"),
+        (b"\"\\ud83d\\u0041\"", "syntax at 0"),
+        (b"\"\\ude00\"", "syntax at 0"),
+        (b"\"\\x\"", "syntax at 0"),
+        (b"\"\\u12g4\"", "syntax at 0"),
+        (b"\"a\x01\"", "syntax at 0"),
+        (b"\"a\n\"", "syntax at 0"),
+        (b"\"abc", "truncated at 4"),
+        (b"\"abc\\u00", "truncated at 8"),
+        (b"\"ab\\", "truncated at 4"),
+        (b"\"\xc3", "truncated at 2"),
+        (
+            b"{\"http://a/p\":\"\\ud83d\"}",
+            "{0 http://a/p:1 syntax at 14",
+        ),
+    ];
+    for (text, want) in rows {
+        check(&rt, rt.alloc(), text, want)?;
+    }
+    Ok(())
+}
+
+#[test]
+fn utf8(rt: HostRuntime) -> Result<(), Fail> {
+    let rows: [(&[u8], &str); 14] = [
+        (b"\"\xff\"", "utf8 at 0"),
+        (b"\"a\x80\"", "utf8 at 0"),
+        (b"\"\xc0\x80\"", "utf8 at 0"),
+        (b"\"\xc3\",1]", "utf8 at 0"),
+        (b"[\"\xc3\",1]", "[0 utf8 at 1"),
+        (b"\"\xe0\x80\x80\"", "utf8 at 0"),
+        (b"\"\xed\xa0\x80\"", "utf8 at 0"),
+        (b"\"\xf0\x80\x80\x80\"", "utf8 at 0"),
+        (b"\"\xf4\x90\x80\x80\"", "utf8 at 0"),
+        (b"\"\xe2\x82x\"", "utf8 at 0"),
+        (b"[\"\\\xff\"]", "[0 utf8 at 1"),
+        (b"[\"\\u00\xc3\xa9\"]", "[0 syntax at 1"),
+        (b"\xef\xbb\xbf{}", "syntax at 0"),
+        (b"[\xc3\xa9]", "[0 syntax at 1"),
+    ];
+    for (text, want) in rows {
+        check(&rt, rt.alloc(), text, want)?;
+    }
+    Ok(())
+}
+
+#[test]
+fn structures(rt: HostRuntime) -> Result<(), Fail> {
+    let rows: [(&[u8], &str); 26] = [
+        (b"", "truncated at 0"),
+        (b" \t\n\r", "truncated at 4"),
+        (b"{}", "{0 }1 "),
+        (b" [ ] ", "[1 ]3 "),
+        (b"\x0c1", "syntax at 0"),
+        (b"{\"a\":1}", "{0 a:1 #1@5 }6 "),
+        (
+            b"{ \"a\" : [ ] , \"b\" : { } }",
+            "{0 a:2 [8 ]10 b:14 {20 }22 }24 ",
+        ),
+        (b"[1,]", "[0 #1@1 syntax at 3"),
+        (b"[,1]", "[0 syntax at 1"),
+        (b"[1 2]", "[0 #1@1 syntax at 3"),
+        (b"[1}", "[0 syntax at 2"),
+        (b"[}", "[0 syntax at 1"),
+        (b"{]", "{0 syntax at 1"),
+        (b"]", "syntax at 0"),
+        (b"{}{}", "{0 }1 syntax at 2"),
+        (b"{,}", "{0 syntax at 1"),
+        (b"{1:2}", "{0 syntax at 1"),
+        (b"{\"a\"1}", "{0 a:1 syntax at 4"),
+        (b"{\"a\":}", "{0 a:1 syntax at 5"),
+        (b"{\"a\":1,}", "{0 a:1 #1@5 syntax at 7"),
+        (b"{\"a\":1 \"b\":2}", "{0 a:1 #1@5 syntax at 7"),
+        (b"{\"a\":1", "{0 a:1 truncated at 6"),
+        (b"{\"a\":1,\"\\u0061\":2}", "{0 a:1 #1@5 duplicate key at 7"),
+        (
+            b"{\"a\":{\"x\":1,\"\\u0078\":2}}",
+            "{0 a:1 {5 x:6 #1@10 duplicate key at 12",
+        ),
+        (
+            b"{\"a\":{\"a\":1},\"b\":{\"a\":1}}",
+            "{0 a:1 {5 a:6 #1@10 }11 b:13 {17 a:18 #1@22 }23 }24 ",
+        ),
+        (
+            b"{\"a\":1,\"b\":1,\"a\":1}",
+            "{0 a:1 #1@5 b:7 #1@11 duplicate key at 13",
+        ),
+    ];
+    for (text, want) in rows {
+        check(&rt, rt.alloc(), text, want)?;
+    }
+    Ok(())
+}
+
+#[test]
+fn depth(rt: HostRuntime) -> Result<(), Fail> {
+    let mut lexer = Lexer::new(rt.alloc(), 0);
+    let mut out = String::new(rt.alloc());
+    assert!(rt;
+        feed(
+            &mut lexer,
+            rt.alloc(),
+            [b'['; 256].as_slice(),
+            false,
+            &mut out
+        )?
+    );
+    out.clear();
+    match lexer.step(rt.alloc(), b'[') {
+        Ok(_) => out.push_str("taken")?,
+        Err(stop) => show_stop(&mut out, stop)?,
+    }
+    match lexer.step(rt.alloc(), b']') {
+        Ok(_) => out.push_str("taken")?,
+        Err(stop) => show_stop(&mut out, stop)?,
+    }
+    assert_eq!(rt; out.as_str(), "too deep at 256too deep at 256");
+    Ok(())
+}
+
+#[test]
+fn length(rt: HostRuntime) -> Result<(), Fail> {
+    let mut lexer = Lexer::new(rt.alloc(), 1_099_511_627_775);
+    let mut out = String::new(rt.alloc());
+    match lexer.step(rt.alloc(), b'[') {
+        Ok(step) => show_some(&mut out, &step.first)?,
+        Err(stop) => show_stop(&mut out, stop)?,
+    }
+    match lexer.step(rt.alloc(), b']') {
+        Ok(step) => show_some(&mut out, &step.first)?,
+        Err(stop) => show_stop(&mut out, stop)?,
+    }
+    assert_eq!(rt; out.as_str(), "[1099511627775 too long at 1099511627776");
+    Ok(())
+}
+
+#[test]
+fn weight_and_state(rt: HostRuntime) -> Result<(), Fail> {
+    let mut lexer = Lexer::new(rt.alloc(), 0);
+    let mut out = String::new(rt.alloc());
+    assert!(rt;
+        feed(
+            &mut lexer,
+            rt.alloc(),
+            b"{\"ab\":{\"c\":\"\\u00e9",
+            true,
+            &mut out
+        )?
+    );
+    assert_eq!(rt; lexer.open_len(), 10);
+    assert_eq!(rt; lexer.state().reading.part.bytes(), b"\xc3\xa9".as_slice());
+    Ok(())
+}
