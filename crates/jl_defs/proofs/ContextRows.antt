@@ -1,0 +1,197 @@
+-- Context processing and term definitions. Each document stands above its row.
+use Rattle.std.specs.Prelude.{◌≡◌, true, false, [], ◌∷◌, Some, None, codes, refl}
+use Rattle.jl_model.specs.JsonTree.{scalar, array, object, no_item, item, no_member, member}
+use Rattle.jl_model.specs.declared.scalars.Scalar.TheVariants.{Null, Bool as truth, Number, Str}
+use Rattle.jl_model.specs.declared.orders.Order.TheVariants.{Any, Streaming}
+use Rattle.jl_model.specs.declared.codes.Code.TheVariants as code
+use Rattle.jl_defs.specs.ObjectContexts.{fault}
+use Rattle.jl_defs.proofs.RowWords.{settings, handed, says, says_in_both, is_refused, is_refused_in_both}
+
+-- {"@context":{"@version":1.1,"ex":"http://a/","n":{"@id":"ex:n","@type":"@id"}},"@id":"http://a/s","n":"ex:o"}
+row_1 : says_in_both None [] (object 0 (member 1 (codes "@context") (object 12 (member 13 (codes "@version") (scalar 24 (Number (codes "1.1"))) (member 28 (codes "ex") (scalar 33 (Str (codes "http://a/"))) (member 45 (codes "n") (object 49 (member 50 (codes "@id") (scalar 56 (Str (codes "ex:n"))) (member 63 (codes "@type") (scalar 71 (Str (codes "@id"))) no_member))) no_member)))) (member 79 (codes "@id") (scalar 85 (Str (codes "http://a/s"))) (member 98 (codes "n") (scalar 102 (Str (codes "ex:o"))) no_member)))) (codes "<http://a/s> <http://a/n> <http://a/o> .\n" ∷ []) ≡ true
+unfolding says_in_both
+row_1 = refl
+
+-- {"p":"x","@context":{"p":"http://a/p"},"@id":"http://a/s"}
+row_2_any : says (settings Any None []) (object 0 (member 1 (codes "p") (scalar 5 (Str (codes "x"))) (member 9 (codes "@context") (object 20 (member 21 (codes "p") (scalar 25 (Str (codes "http://a/p"))) no_member)) (member 39 (codes "@id") (scalar 45 (Str (codes "http://a/s"))) no_member)))) (codes "<http://a/s> <http://a/p> \"x\" .\n" ∷ []) ≡ true
+unfolding says
+row_2_any = refl
+
+row_2_streaming : is_refused (settings Streaming None []) (object 0 (member 1 (codes "p") (scalar 5 (Str (codes "x"))) (member 9 (codes "@context") (object 20 (member 21 (codes "p") (scalar 25 (Str (codes "http://a/p"))) no_member)) (member 39 (codes "@id") (scalar 45 (Str (codes "http://a/s"))) no_member)))) (fault code.LateContext 9 ∷ fault code.LateIdentifier 39 ∷ []) ≡ true
+unfolding is_refused
+row_2_streaming = refl
+
+-- {"@context":[{"@protected":true,"p":"http://a/p"},{"p":"http://b/p"}],"@id":"http://a/s","p":"x"}
+row_3 : is_refused_in_both None [] (object 0 (member 1 (codes "@context") (array 12 (item (object 13 (member 14 (codes "@protected") (scalar 27 (truth true)) (member 32 (codes "p") (scalar 36 (Str (codes "http://a/p"))) no_member))) (item (object 50 (member 51 (codes "p") (scalar 55 (Str (codes "http://b/p"))) no_member)) no_item))) (member 70 (codes "@id") (scalar 76 (Str (codes "http://a/s"))) (member 89 (codes "p") (scalar 93 (Str (codes "x"))) no_member)))) (fault code.ProtectedTermRedefinition 1 ∷ []) ≡ true
+unfolding is_refused_in_both
+row_3 = refl
+
+-- {"@context":[{"@protected":true,"p":"http://a/p"},{"p":"http://a/p"}],"@id":"http://a/s","p":"x"}
+row_4 : says_in_both None [] (object 0 (member 1 (codes "@context") (array 12 (item (object 13 (member 14 (codes "@protected") (scalar 27 (truth true)) (member 32 (codes "p") (scalar 36 (Str (codes "http://a/p"))) no_member))) (item (object 50 (member 51 (codes "p") (scalar 55 (Str (codes "http://a/p"))) no_member)) no_item))) (member 70 (codes "@id") (scalar 76 (Str (codes "http://a/s"))) (member 89 (codes "p") (scalar 93 (Str (codes "x"))) no_member)))) (codes "<http://a/s> <http://a/p> \"x\" .\n" ∷ []) ≡ true
+unfolding says_in_both
+row_4 = refl
+
+-- {"@context":[{"@protected":true,"p":"http://a/p"},null],"@id":"http://a/s"}
+row_5 : is_refused_in_both None [] (object 0 (member 1 (codes "@context") (array 12 (item (object 13 (member 14 (codes "@protected") (scalar 27 (truth true)) (member 32 (codes "p") (scalar 36 (Str (codes "http://a/p"))) no_member))) (item (scalar 50 Null) no_item))) (member 56 (codes "@id") (scalar 62 (Str (codes "http://a/s"))) no_member))) (fault code.InvalidContextNullification 1 ∷ []) ≡ true
+unfolding is_refused_in_both
+row_5 = refl
+
+-- {"@context":{"@protected":true,"p":"http://a/p","q":{"@id":"http://a/q","@context":{"p":"http://b/p"}}},"@id":"http://a/s","q":{"@id":"http://a/o","p":"x"}}
+row_6 : says_in_both None [] (object 0 (member 1 (codes "@context") (object 12 (member 13 (codes "@protected") (scalar 26 (truth true)) (member 31 (codes "p") (scalar 35 (Str (codes "http://a/p"))) (member 48 (codes "q") (object 52 (member 53 (codes "@id") (scalar 59 (Str (codes "http://a/q"))) (member 72 (codes "@context") (object 83 (member 84 (codes "p") (scalar 88 (Str (codes "http://b/p"))) no_member)) no_member))) no_member)))) (member 104 (codes "@id") (scalar 110 (Str (codes "http://a/s"))) (member 123 (codes "q") (object 127 (member 128 (codes "@id") (scalar 134 (Str (codes "http://a/o"))) (member 147 (codes "p") (scalar 151 (Str (codes "x"))) no_member))) no_member)))) (codes "<http://a/o> <http://b/p> \"x\" .\n" ∷ codes "<http://a/s> <http://a/q> <http://a/o> .\n" ∷ []) ≡ true
+unfolding says_in_both
+row_6 = refl
+
+-- {"@context":"https://schema.org/","@id":"http://shop.example/1","@type":"Product","name":"Cup","url":"http://shop.example/1.html","offers":{"@type":"Offer","price":12,"priceCurrency":"EUR"}} with https://schema.org/ handed in as {"@context":{"@vocab":"http://schema.org/","url":{"@id":"url","@type":"@id"}}}
+row_7 : says_in_both None (handed (codes "https://schema.org/") (object 0 (member 1 (codes "@context") (object 12 (member 13 (codes "@vocab") (scalar 22 (Str (codes "http://schema.org/"))) (member 43 (codes "url") (object 49 (member 50 (codes "@id") (scalar 56 (Str (codes "url"))) (member 62 (codes "@type") (scalar 70 (Str (codes "@id"))) no_member))) no_member))) no_member)) ∷ []) (object 0 (member 1 (codes "@context") (scalar 12 (Str (codes "https://schema.org/"))) (member 34 (codes "@id") (scalar 40 (Str (codes "http://shop.example/1"))) (member 64 (codes "@type") (scalar 72 (Str (codes "Product"))) (member 82 (codes "name") (scalar 89 (Str (codes "Cup"))) (member 95 (codes "url") (scalar 101 (Str (codes "http://shop.example/1.html"))) (member 130 (codes "offers") (object 139 (member 140 (codes "@type") (scalar 148 (Str (codes "Offer"))) (member 156 (codes "price") (scalar 164 (Number (codes "12"))) (member 167 (codes "priceCurrency") (scalar 183 (Str (codes "EUR"))) no_member)))) no_member))))))) (codes "<http://shop.example/1> <http://schema.org/name> \"Cup\" .\n" ∷ codes "<http://shop.example/1> <http://schema.org/offers> _:jlb139 .\n" ∷ codes "<http://shop.example/1> <http://schema.org/url> <http://shop.example/1.html> .\n" ∷ codes "<http://shop.example/1> <http://www.w3.org/1999/02/22-rdf-syntax-ns#type> <http://schema.org/Product> .\n" ∷ codes "_:jlb139 <http://schema.org/price> \"12\"^^<http://www.w3.org/2001/XMLSchema#integer> .\n" ∷ codes "_:jlb139 <http://schema.org/priceCurrency> \"EUR\" .\n" ∷ codes "_:jlb139 <http://www.w3.org/1999/02/22-rdf-syntax-ns#type> <http://schema.org/Offer> .\n" ∷ []) ≡ true
+unfolding says_in_both
+row_7 = refl
+
+-- {"@context":"https://schema.org/","@id":"http://shop.example/1","@type":"Product","name":"Cup","url":"http://shop.example/1.html","offers":{"@type":"Offer","price":12,"priceCurrency":"EUR"}}
+row_8 : is_refused_in_both None [] (object 0 (member 1 (codes "@context") (scalar 12 (Str (codes "https://schema.org/"))) (member 34 (codes "@id") (scalar 40 (Str (codes "http://shop.example/1"))) (member 64 (codes "@type") (scalar 72 (Str (codes "Product"))) (member 82 (codes "name") (scalar 89 (Str (codes "Cup"))) (member 95 (codes "url") (scalar 101 (Str (codes "http://shop.example/1.html"))) (member 130 (codes "offers") (object 139 (member 140 (codes "@type") (scalar 148 (Str (codes "Offer"))) (member 156 (codes "price") (scalar 164 (Number (codes "12"))) (member 167 (codes "priceCurrency") (scalar 183 (Str (codes "EUR"))) no_member)))) no_member))))))) (fault code.LoadingRemoteContextFailed 1 ∷ []) ≡ true
+unfolding is_refused_in_both
+row_8 = refl
+
+-- {"@context":{"id":"@id"},"@id":"http://a/s","id":"http://a/t"}
+row_9 : is_refused_in_both None [] (object 0 (member 1 (codes "@context") (object 12 (member 13 (codes "id") (scalar 18 (Str (codes "@id"))) no_member)) (member 25 (codes "@id") (scalar 31 (Str (codes "http://a/s"))) (member 44 (codes "id") (scalar 49 (Str (codes "http://a/t"))) no_member)))) (fault code.CollidingKeywords 44 ∷ []) ≡ true
+unfolding is_refused_in_both
+row_9 = refl
+
+-- {"@context":{"p":"http://a/p"},"@id":"http://a/s","p":"x"}
+row_10 : says_in_both None [] (object 0 (member 1 (codes "@context") (object 12 (member 13 (codes "p") (scalar 17 (Str (codes "http://a/p"))) no_member)) (member 31 (codes "@id") (scalar 37 (Str (codes "http://a/s"))) (member 50 (codes "p") (scalar 54 (Str (codes "x"))) no_member)))) (codes "<http://a/s> <http://a/p> \"x\" .\n" ∷ []) ≡ true
+unfolding says_in_both
+row_10 = refl
+
+-- {"@context":{"a":"b:x","b":"a:y"}}
+row_11 : is_refused_in_both None [] (object 0 (member 1 (codes "@context") (object 12 (member 13 (codes "a") (scalar 17 (Str (codes "b:x"))) (member 23 (codes "b") (scalar 27 (Str (codes "a:y"))) no_member))) no_member)) (fault code.CyclicIriMapping 1 ∷ []) ≡ true
+unfolding is_refused_in_both
+row_11 = refl
+
+-- {"@context":5}
+row_12 : is_refused_in_both None [] (object 0 (member 1 (codes "@context") (scalar 12 (Number (codes "5"))) no_member)) (fault code.InvalidLocalContext 1 ∷ []) ≡ true
+unfolding is_refused_in_both
+row_12 = refl
+
+-- {"@context":{"@language":"en"},"@id":"http://a/s","http://a/p":"x"}
+row_13 : says_in_both None [] (object 0 (member 1 (codes "@context") (object 12 (member 13 (codes "@language") (scalar 25 (Str (codes "en"))) no_member)) (member 31 (codes "@id") (scalar 37 (Str (codes "http://a/s"))) (member 50 (codes "http://a/p") (scalar 63 (Str (codes "x"))) no_member)))) (codes "<http://a/s> <http://a/p> \"x\"@en .\n" ∷ []) ≡ true
+unfolding says_in_both
+row_13 = refl
+
+-- {"@context":"x.json"}
+row_14 : is_refused_in_both None [] (object 0 (member 1 (codes "@context") (scalar 12 (Str (codes "x.json"))) no_member)) (fault code.LoadingDocumentFailed 1 ∷ []) ≡ true
+unfolding is_refused_in_both
+row_14 = refl
+
+-- {"@context":{"@import":5}}
+row_15 : is_refused_in_both None [] (object 0 (member 1 (codes "@context") (object 12 (member 13 (codes "@import") (scalar 23 (Number (codes "5"))) no_member)) no_member)) (fault code.InvalidImportValue 1 ∷ []) ≡ true
+unfolding is_refused_in_both
+row_15 = refl
+
+-- {"@context":{"p":{"@id":"http://a/p","@context":5}}}
+row_16 : is_refused_in_both None [] (object 0 (member 1 (codes "@context") (object 12 (member 13 (codes "p") (object 17 (member 18 (codes "@id") (scalar 24 (Str (codes "http://a/p"))) (member 37 (codes "@context") (scalar 48 (Number (codes "5"))) no_member))) no_member)) no_member)) (fault code.InvalidScopedContext 1 ∷ []) ≡ true
+unfolding is_refused_in_both
+row_16 = refl
+
+-- {"@context":{"@protected":true,"p":"http://a/p","q":{"@id":"http://a/q","@context":"http://c/one"}}} with http://c/one handed in as {"@context":{"p":"http://b/p"}}
+row_17 : is_refused_in_both None (handed (codes "http://c/one") (object 0 (member 1 (codes "@context") (object 12 (member 13 (codes "p") (scalar 17 (Str (codes "http://b/p"))) no_member)) no_member)) ∷ []) (object 0 (member 1 (codes "@context") (object 12 (member 13 (codes "@protected") (scalar 26 (truth true)) (member 31 (codes "p") (scalar 35 (Str (codes "http://a/p"))) (member 48 (codes "q") (object 52 (member 53 (codes "@id") (scalar 59 (Str (codes "http://a/q"))) (member 72 (codes "@context") (scalar 83 (Str (codes "http://c/one"))) no_member))) no_member)))) no_member)) (fault code.InvalidScopedContext 1 ∷ []) ≡ true
+unfolding is_refused_in_both
+row_17 = refl
+
+-- {"@context":[{"p":{"@id":"http://a/p","@protected":true}},null]}
+row_18 : is_refused_in_both None [] (object 0 (member 1 (codes "@context") (array 12 (item (object 13 (member 14 (codes "p") (object 18 (member 19 (codes "@id") (scalar 25 (Str (codes "http://a/p"))) (member 38 (codes "@protected") (scalar 51 (truth true)) no_member))) no_member)) (item (scalar 58 Null) no_item))) no_member)) (fault code.InvalidContextNullification 1 ∷ []) ≡ true
+unfolding is_refused_in_both
+row_18 = refl
+
+-- {"@context":[{"@protected":true,"p":"http://a/p"},{"p":{"@id":"http://a/p","@protected":false}},{"p":"http://b/p"}]}
+row_19 : is_refused_in_both None [] (object 0 (member 1 (codes "@context") (array 12 (item (object 13 (member 14 (codes "@protected") (scalar 27 (truth true)) (member 32 (codes "p") (scalar 36 (Str (codes "http://a/p"))) no_member))) (item (object 50 (member 51 (codes "p") (object 55 (member 56 (codes "@id") (scalar 62 (Str (codes "http://a/p"))) (member 75 (codes "@protected") (scalar 88 (truth false)) no_member))) no_member)) (item (object 96 (member 97 (codes "p") (scalar 101 (Str (codes "http://b/p"))) no_member)) no_item)))) no_member)) (fault code.ProtectedTermRedefinition 1 ∷ []) ≡ true
+unfolding is_refused_in_both
+row_19 = refl
+
+-- {"@context":{"@vocab":"http://v/#","ex":"ex","ey":"http://e/"},"@id":"http://a/s","ex:p":"1","ey:p":"2"}
+row_20 : says_in_both None [] (object 0 (member 1 (codes "@context") (object 12 (member 13 (codes "@vocab") (scalar 22 (Str (codes "http://v/#"))) (member 35 (codes "ex") (scalar 40 (Str (codes "ex"))) (member 45 (codes "ey") (scalar 50 (Str (codes "http://e/"))) no_member)))) (member 63 (codes "@id") (scalar 69 (Str (codes "http://a/s"))) (member 82 (codes "ex:p") (scalar 89 (Str (codes "1"))) (member 93 (codes "ey:p") (scalar 100 (Str (codes "2"))) no_member))))) (codes "<http://a/s> <ex:p> \"1\" .\n" ∷ codes "<http://a/s> <http://e/p> \"2\" .\n" ∷ []) ≡ true
+unfolding says_in_both
+row_20 = refl
+
+-- {"@context":{"":"http://a/"},"@id":"http://a/s"}
+row_21 : is_refused_in_both None [] (object 0 (member 1 (codes "@context") (object 12 (member 13 ([]) (scalar 16 (Str (codes "http://a/"))) no_member)) (member 29 (codes "@id") (scalar 35 (Str (codes "http://a/s"))) no_member))) (fault code.InvalidTermDefinition 1 ∷ []) ≡ true
+unfolding is_refused_in_both
+row_21 = refl
+
+-- {"@context":[{"@vocab":"http://v/"},{"@vocab":"x#"}],"@id":"http://a/s","p":"1"}
+row_22 : says_in_both None [] (object 0 (member 1 (codes "@context") (array 12 (item (object 13 (member 14 (codes "@vocab") (scalar 23 (Str (codes "http://v/"))) no_member)) (item (object 36 (member 37 (codes "@vocab") (scalar 46 (Str (codes "x#"))) no_member)) no_item))) (member 53 (codes "@id") (scalar 59 (Str (codes "http://a/s"))) (member 72 (codes "p") (scalar 76 (Str (codes "1"))) no_member)))) (codes "<http://a/s> <http://v/x#p> \"1\" .\n" ∷ []) ≡ true
+unfolding says_in_both
+row_22 = refl
+
+-- {"@context":{"@vocab":""},"@id":"http://a/s","p":"1"} with the base http://d/e
+row_23 : says_in_both (Some (codes "http://d/e")) [] (object 0 (member 1 (codes "@context") (object 12 (member 13 (codes "@vocab") (scalar 22 (Str ([]))) no_member)) (member 26 (codes "@id") (scalar 32 (Str (codes "http://a/s"))) (member 45 (codes "p") (scalar 49 (Str (codes "1"))) no_member)))) (codes "<http://a/s> <http://d/ep> \"1\" .\n" ∷ []) ≡ true
+unfolding says_in_both
+row_23 = refl
+
+-- {"@context":{"@vocab":"http://v/","a/b":{}},"@id":"http://a/s","a/b":"x"}
+row_24 : says_in_both None [] (object 0 (member 1 (codes "@context") (object 12 (member 13 (codes "@vocab") (scalar 22 (Str (codes "http://v/"))) (member 34 (codes "a/b") (object 40 no_member) no_member))) (member 44 (codes "@id") (scalar 50 (Str (codes "http://a/s"))) (member 63 (codes "a/b") (scalar 69 (Str (codes "x"))) no_member)))) (codes "<http://a/s> <http://v/a/b> \"x\" .\n" ∷ []) ≡ true
+unfolding says_in_both
+row_24 = refl
+
+-- {"@context":{"@vocab":"http://v/","p":{"@type":"p"}}}
+row_25 : is_refused_in_both None [] (object 0 (member 1 (codes "@context") (object 12 (member 13 (codes "@vocab") (scalar 22 (Str (codes "http://v/"))) (member 34 (codes "p") (object 38 (member 39 (codes "@type") (scalar 47 (Str (codes "p"))) no_member)) no_member))) no_member)) (fault code.CyclicIriMapping 1 ∷ []) ≡ true
+unfolding is_refused_in_both
+row_25 = refl
+
+-- {"@context":{"@import":"http://c/f"}} with http://c/f handed in as {"@context":{"t":{"@id":"http://a/t","@context":{"@import":"http://c/f"}}}}
+row_26 : is_refused_in_both None (handed (codes "http://c/f") (object 0 (member 1 (codes "@context") (object 12 (member 13 (codes "t") (object 17 (member 18 (codes "@id") (scalar 24 (Str (codes "http://a/t"))) (member 37 (codes "@context") (object 48 (member 49 (codes "@import") (scalar 59 (Str (codes "http://c/f"))) no_member)) no_member))) no_member)) no_member)) ∷ []) (object 0 (member 1 (codes "@context") (object 12 (member 13 (codes "@import") (scalar 23 (Str (codes "http://c/f"))) no_member)) no_member)) (fault code.InvalidScopedContext 1 ∷ []) ≡ true
+unfolding is_refused_in_both
+row_26 = refl
+
+-- {"@context":"http://c/f","@id":"http://a/s","t":{"@id":"http://a/o","t":"x"}} with http://c/f handed in as {"@context":{"t":{"@id":"http://a/t","@context":"http://c/f"}}}
+row_27 : says_in_both None (handed (codes "http://c/f") (object 0 (member 1 (codes "@context") (object 12 (member 13 (codes "t") (object 17 (member 18 (codes "@id") (scalar 24 (Str (codes "http://a/t"))) (member 37 (codes "@context") (scalar 48 (Str (codes "http://c/f"))) no_member))) no_member)) no_member)) ∷ []) (object 0 (member 1 (codes "@context") (scalar 12 (Str (codes "http://c/f"))) (member 25 (codes "@id") (scalar 31 (Str (codes "http://a/s"))) (member 44 (codes "t") (object 48 (member 49 (codes "@id") (scalar 55 (Str (codes "http://a/o"))) (member 68 (codes "t") (scalar 72 (Str (codes "x"))) no_member))) no_member)))) (codes "<http://a/o> <http://a/t> \"x\" .\n" ∷ codes "<http://a/s> <http://a/t> <http://a/o> .\n" ∷ []) ≡ true
+unfolding says_in_both
+row_27 = refl
+
+-- {"@context":{"@import":"http://c/f","@base":"http://b/"},"@id":"s","t":"x"} with http://c/f handed in as {"@context":{"t":"http://a/t"}}
+row_28 : says_in_both None (handed (codes "http://c/f") (object 0 (member 1 (codes "@context") (object 12 (member 13 (codes "t") (scalar 17 (Str (codes "http://a/t"))) no_member)) no_member)) ∷ []) (object 0 (member 1 (codes "@context") (object 12 (member 13 (codes "@import") (scalar 23 (Str (codes "http://c/f"))) (member 36 (codes "@base") (scalar 44 (Str (codes "http://b/"))) no_member))) (member 57 (codes "@id") (scalar 63 (Str (codes "s"))) (member 67 (codes "t") (scalar 71 (Str (codes "x"))) no_member)))) (codes "<http://b/s> <http://a/t> \"x\" .\n" ∷ []) ≡ true
+unfolding says_in_both
+row_28 = refl
+
+-- {"@context":["http://c/f",{"@base":"http://x/"}],"@id":"s","t":"x"} with http://c/f handed in as {"@context":{"@base":"http://c/","t":"http://a/t"}}
+row_29 : says_in_both None (handed (codes "http://c/f") (object 0 (member 1 (codes "@context") (object 12 (member 13 (codes "@base") (scalar 21 (Str (codes "http://c/"))) (member 33 (codes "t") (scalar 37 (Str (codes "http://a/t"))) no_member))) no_member)) ∷ []) (object 0 (member 1 (codes "@context") (array 12 (item (scalar 13 (Str (codes "http://c/f"))) (item (object 26 (member 27 (codes "@base") (scalar 35 (Str (codes "http://x/"))) no_member)) no_item))) (member 49 (codes "@id") (scalar 55 (Str (codes "s"))) (member 59 (codes "t") (scalar 63 (Str (codes "x"))) no_member)))) (codes "<http://x/s> <http://a/t> \"x\" .\n" ∷ []) ≡ true
+unfolding says_in_both
+row_29 = refl
+
+-- {"@context":{"i":{"@id":"http://a/i","@container":"@index","@index":"k"},"k":"http://a/k"},"@id":"http://a/s","i":{"one":{"@id":"http://a/o"}}}
+row_30 : says_in_both None [] (object 0 (member 1 (codes "@context") (object 12 (member 13 (codes "i") (object 17 (member 18 (codes "@id") (scalar 24 (Str (codes "http://a/i"))) (member 37 (codes "@container") (scalar 50 (Str (codes "@index"))) (member 59 (codes "@index") (scalar 68 (Str (codes "k"))) no_member)))) (member 73 (codes "k") (scalar 77 (Str (codes "http://a/k"))) no_member))) (member 91 (codes "@id") (scalar 97 (Str (codes "http://a/s"))) (member 110 (codes "i") (object 114 (member 115 (codes "one") (object 121 (member 122 (codes "@id") (scalar 128 (Str (codes "http://a/o"))) no_member)) no_member)) no_member)))) (codes "<http://a/o> <http://a/k> \"one\" .\n" ∷ codes "<http://a/s> <http://a/i> <http://a/o> .\n" ∷ []) ≡ true
+unfolding says_in_both
+row_30 = refl
+
+-- {"@context":{"i":{"@id":"http://a/i","@container":"@index","@index":"i"}}}
+row_31 : is_refused_in_both None [] (object 0 (member 1 (codes "@context") (object 12 (member 13 (codes "i") (object 17 (member 18 (codes "@id") (scalar 24 (Str (codes "http://a/i"))) (member 37 (codes "@container") (scalar 50 (Str (codes "@index"))) (member 59 (codes "@index") (scalar 68 (Str (codes "i"))) no_member)))) no_member)) no_member)) (fault code.CyclicIriMapping 1 ∷ []) ≡ true
+unfolding is_refused_in_both
+row_31 = refl
+
+-- {"@context":{"p":{"@id":"http://a/p","@container":[]}}}
+row_32 : is_refused_in_both None [] (object 0 (member 1 (codes "@context") (object 12 (member 13 (codes "p") (object 17 (member 18 (codes "@id") (scalar 24 (Str (codes "http://a/p"))) (member 37 (codes "@container") (array 50 no_item) no_member))) no_member)) no_member)) (fault code.InvalidContainerMapping 1 ∷ []) ≡ true
+unfolding is_refused_in_both
+row_32 = refl
+
+-- {"@context":{"p":{"@id":"http://a/p","@container":null}}}
+row_33 : is_refused_in_both None [] (object 0 (member 1 (codes "@context") (object 12 (member 13 (codes "p") (object 17 (member 18 (codes "@id") (scalar 24 (Str (codes "http://a/p"))) (member 37 (codes "@container") (scalar 50 Null) no_member))) no_member)) no_member)) (fault code.InvalidContainerMapping 1 ∷ []) ≡ true
+unfolding is_refused_in_both
+row_33 = refl
+
+-- {"@context":{"r":{"@reverse":"http://a/r","@container":null,"@language":5,"@foo":1}},"@id":"http://a/s","r":{"@id":"http://a/o"}}
+row_34 : says_in_both None [] (object 0 (member 1 (codes "@context") (object 12 (member 13 (codes "r") (object 17 (member 18 (codes "@reverse") (scalar 29 (Str (codes "http://a/r"))) (member 42 (codes "@container") (scalar 55 Null) (member 60 (codes "@language") (scalar 72 (Number (codes "5"))) (member 74 (codes "@foo") (scalar 81 (Number (codes "1"))) no_member))))) no_member)) (member 85 (codes "@id") (scalar 91 (Str (codes "http://a/s"))) (member 104 (codes "r") (object 108 (member 109 (codes "@id") (scalar 115 (Str (codes "http://a/o"))) no_member)) no_member)))) (codes "<http://a/o> <http://a/r> <http://a/s> .\n" ∷ []) ≡ true
+unfolding says_in_both
+row_34 = refl
+
+-- {"@context":{"r":{"@reverse":"http://a/r","@container":["@set"]}}}
+row_35 : is_refused_in_both None [] (object 0 (member 1 (codes "@context") (object 12 (member 13 (codes "r") (object 17 (member 18 (codes "@reverse") (scalar 29 (Str (codes "http://a/r"))) (member 42 (codes "@container") (array 55 (item (scalar 56 (Str (codes "@set"))) no_item)) no_member))) no_member)) no_member)) (fault code.InvalidReverseProperty 1 ∷ []) ≡ true
+unfolding is_refused_in_both
+row_35 = refl
+
+-- {"@context":[{"p":{"@id":"http://a/p","@protected":true,"@context":{"a":"http://a/a","b":"http://a/b"}}},{"p":{"@id":"http://a/p","@context":{"b":"http://a/b","a":"http://a/a"}}}]}
+row_36 : is_refused_in_both None [] (object 0 (member 1 (codes "@context") (array 12 (item (object 13 (member 14 (codes "p") (object 18 (member 19 (codes "@id") (scalar 25 (Str (codes "http://a/p"))) (member 38 (codes "@protected") (scalar 51 (truth true)) (member 56 (codes "@context") (object 67 (member 68 (codes "a") (scalar 72 (Str (codes "http://a/a"))) (member 85 (codes "b") (scalar 89 (Str (codes "http://a/b"))) no_member))) no_member)))) no_member)) (item (object 105 (member 106 (codes "p") (object 110 (member 111 (codes "@id") (scalar 117 (Str (codes "http://a/p"))) (member 130 (codes "@context") (object 141 (member 142 (codes "b") (scalar 146 (Str (codes "http://a/b"))) (member 159 (codes "a") (scalar 163 (Str (codes "http://a/a"))) no_member))) no_member))) no_member)) no_item))) no_member)) (fault code.ProtectedTermRedefinition 1 ∷ []) ≡ true
+unfolding is_refused_in_both
+row_36 = refl
+
+-- {"@context":[{"p":"http://a/p"},{"p":{"@id":"http://b/p","@context":{"q":{"@id":"http://b/q","@type":"p"}}}}]}
+row_37 : is_refused_in_both None [] (object 0 (member 1 (codes "@context") (array 12 (item (object 13 (member 14 (codes "p") (scalar 18 (Str (codes "http://a/p"))) no_member)) (item (object 32 (member 33 (codes "p") (object 37 (member 38 (codes "@id") (scalar 44 (Str (codes "http://b/p"))) (member 57 (codes "@context") (object 68 (member 69 (codes "q") (object 73 (member 74 (codes "@id") (scalar 80 (Str (codes "http://b/q"))) (member 93 (codes "@type") (scalar 101 (Str (codes "p"))) no_member))) no_member)) no_member))) no_member)) no_item))) no_member)) (fault code.InvalidScopedContext 1 ∷ []) ≡ true
+unfolding is_refused_in_both
+row_37 = refl

@@ -1,0 +1,17 @@
+pub mod RowWords
+pub mod NodeRows
+pub mod ContextRows
+pub mod ScopedRows
+pub mod ContainerRows
+pub mod GraphRows
+pub mod ListRows
+pub mod ValueRows
+pub mod TurnRows
+pub mod OrderRows
+pub mod TextRows
+pub mod WordRows
+pub mod DueRows
+pub mod ReportedRows
+pub mod BoundRows
+pub mod SelectionRows
+pub mod OpenTextRows
