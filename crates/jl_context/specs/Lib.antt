@@ -1,0 +1,4 @@
+pub mod Compacts
+pub mod Keywords
+pub mod Names
+pub mod Contexts

@@ -1,0 +1,11 @@
+//! The literals that scalars give.
+#![tactic(auto)]
+
+mod datatypes;
+mod doubles;
+mod literals;
+mod numbers;
+#[cfg(test)]
+mod tests;
+
+pub use literals::{ValueStop, literal_of};
