@@ -18,8 +18,9 @@ mod WordLetters
 mod TokenPlaces
 mod Between
 mod OneByte
-mod LexerCalls
+pub mod LexerCalls
 mod PlainRuns
 pub mod OneTree
-mod OneReading
+pub mod OneReading
 pub mod MeantUtf8
+pub mod TokensUtf8

@@ -10,3 +10,4 @@ pub mod StringSteps
 pub mod WordSigns
 pub mod Moves
 pub mod Runs
+pub mod TokenTexts

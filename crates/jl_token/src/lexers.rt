@@ -1,5 +1,6 @@
 //! The lexer.
 ghost use Rattle.std.specs.Prelude.{◌≡◌, ◌≤◌, ◌<◌, ◌-◌, ◌^◌, ◌++◌, ℕ, List, [], ◌∷◌, Some, None, Ok, Err, true, false, IfSome, IfNone, IfOk, IfErr, OnOk, OnErr, IsSome, IsNone, IsTrue, IsUtf8, ◌↔◌, length, min, take};
+ghost use Rattle.std.specs.List.{AllByRecursion};
 ghost use Rattle.jl_model.specs.declared.tokens.Token.{Token};
 ghost use Rattle.jl_model.specs.JsonStrings.{IsString};
 ghost use Rattle.jl_model.specs.JsonTree.{Tree};
@@ -8,6 +9,7 @@ ghost use Rattle.jl_token.specs.declared.states.LexState.{LexState};
 ghost use Rattle.jl_token.specs.declared.steps.LexStop.{LexStop};
 ghost use Rattle.jl_token.specs.Machine as machine;
 ghost use Rattle.jl_token.specs.Runs.{run_len, Runs};
+ghost use Rattle.jl_token.specs.TokenTexts.{HasUtf8};
 ghost use Rattle.jl_token.specs.Lexed.{Stands, IsFront, IsFormed, Takes, Stops, Ends, StopsEnd, HasOneText, tokens_of, told, open_len};
 
 use crate::readings::Reading;
@@ -216,4 +218,11 @@ pub fn law_one_reading()
 /// What a string means is UTF-8.
 pub fn law_utf8()
     ensures { (meant text : List ℕ) → IsString meant text → IsUtf8 meant }
+{}
+
+/// The name of each key and each string of a readable text's tokens is UTF-8, and of the tokens that
+/// were given so far.
+pub fn law_tokens_utf8()
+    ensures reading { (start : ℕ) (text : List ℕ) (tree : Tree) (tokens : List Token) → Reads start text tree tokens → AllByRecursion HasUtf8 tokens }
+    ensures given { (start : ℕ) (p : List ℕ) (given : List Token) (s : LexState) → Stands start p given s → AllByRecursion HasUtf8 given }
 {}
