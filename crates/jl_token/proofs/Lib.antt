@@ -24,3 +24,4 @@ pub mod OneTree
 pub mod OneReading
 pub mod MeantUtf8
 pub mod TokensUtf8
+pub mod OnePlace

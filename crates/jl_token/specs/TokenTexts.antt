@@ -1,5 +1,5 @@
 -- The texts of tokens: the names of keys and the strings.
-use Rattle.std.specs.Prelude.{ℕ, List, IsUtf8}
+use Rattle.std.specs.Prelude.{IsUtf8}
 use Rattle.jl_model.specs.declared.scalars.Scalar.{Scalar}
 use Rattle.jl_model.specs.declared.scalars.Scalar.TheVariants.{Str}
 use Rattle.jl_model.specs.declared.tokens.Token.{Token}

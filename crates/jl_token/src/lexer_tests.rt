@@ -316,45 +316,71 @@ fn structures(rt: HostRuntime) -> Result<(), Fail> {
     Ok(())
 }
 
+/// What the lexer makes of 256 opening brackets and this piece.
+fn read_deep(alloc: Global, piece: &[u8]) -> Result<String, AllocError> {
+    let mut lexer = Lexer::new(alloc, 0);
+    let mut out = String::new(alloc);
+    if !feed(&mut lexer, alloc, [b'['; 256].as_slice(), false, &mut out)? {
+        return Ok(out);
+    }
+    out.clear();
+    if !feed(&mut lexer, alloc, piece, false, &mut out)? {
+        return Ok(out);
+    }
+    out.clear();
+    match lexer.finish(alloc) {
+        Ok(_) => out.push_str("read")?,
+        Err(stop) => show_stop(&mut out, stop)?,
+    }
+    Ok(out)
+}
+
 #[test]
 fn depth(rt: HostRuntime) -> Result<(), Fail> {
-    let mut lexer = Lexer::new(rt.alloc(), 0);
-    let mut out = String::new(rt.alloc());
-    assert!(rt;
-        feed(
-            &mut lexer,
-            rt.alloc(),
-            [b'['; 256].as_slice(),
-            false,
-            &mut out
-        )?
-    );
-    out.clear();
-    match lexer.step(rt.alloc(), b'[') {
-        Ok(_) => out.push_str("taken")?,
-        Err(stop) => show_stop(&mut out, stop)?,
+    let rows: [(&[u8], &str); 4] = [
+        (&[b']'; 256], "read"),
+        (&[b']'; 255], "truncated at 511"),
+        (b"[", "too deep at 256"),
+        (b"{", "too deep at 256"),
+    ];
+    for (piece, want) in rows {
+        let read = read_deep(rt.alloc(), piece)?;
+        assert_eq!(rt; read.as_str(), want);
     }
-    match lexer.step(rt.alloc(), b']') {
-        Ok(_) => out.push_str("taken")?,
-        Err(stop) => show_stop(&mut out, stop)?,
-    }
-    assert_eq!(rt; out.as_str(), "too deep at 256too deep at 256");
     Ok(())
+}
+
+/// What the lexer makes of these bytes from this place on, or from 2^40 on.
+fn read_from(alloc: Global, start: u64, text: &[u8]) -> Result<String, AllocError> {
+    let mut lexer = Lexer::new(alloc, start.min(1_099_511_627_776));
+    let mut out = String::new(alloc);
+    if !feed(&mut lexer, alloc, text, false, &mut out)? {
+        out.push_str("; ")?;
+        feed(&mut lexer, alloc, text, false, &mut out)?;
+    }
+    Ok(out)
 }
 
 #[test]
 fn length(rt: HostRuntime) -> Result<(), Fail> {
-    let mut lexer = Lexer::new(rt.alloc(), 1_099_511_627_775);
-    let mut out = String::new(rt.alloc());
-    match lexer.step(rt.alloc(), b'[') {
-        Ok(step) => show_some(&mut out, &step.first)?,
-        Err(stop) => show_stop(&mut out, stop)?,
+    let rows: [(u64, &[u8], &str); 4] = [
+        (1_099_511_627_774, b"[]", "[1099511627774 ]1099511627775 "),
+        (0, b"[}", "[0 syntax at 1; syntax at 1"),
+        (
+            1_099_511_627_775,
+            b"[]",
+            "[1099511627775 too long at 1099511627776; too long at 1099511627776",
+        ),
+        (
+            1_099_511_627_776,
+            b"[",
+            "too long at 1099511627776; too long at 1099511627776",
+        ),
+    ];
+    for (start, text, want) in rows {
+        let read = read_from(rt.alloc(), start, text)?;
+        assert_eq!(rt; read.as_str(), want);
     }
-    match lexer.step(rt.alloc(), b']') {
-        Ok(step) => show_some(&mut out, &step.first)?,
-        Err(stop) => show_stop(&mut out, stop)?,
-    }
-    assert_eq!(rt; out.as_str(), "[1099511627775 too long at 1099511627776");
     Ok(())
 }
 

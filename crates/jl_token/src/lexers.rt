@@ -5,6 +5,7 @@ ghost use Rattle.jl_model.specs.declared.tokens.Token.{Token};
 ghost use Rattle.jl_model.specs.JsonStrings.{IsString};
 ghost use Rattle.jl_model.specs.JsonTree.{Tree};
 ghost use Rattle.jl_model.specs.JsonText.{Reads};
+ghost use Rattle.jl_model.specs.TextFaults.{PlaceBehind};
 ghost use Rattle.jl_token.specs.declared.states.LexState.{LexState};
 ghost use Rattle.jl_token.specs.declared.steps.LexStop.{LexStop};
 ghost use Rattle.jl_token.specs.Machine as machine;
@@ -225,4 +226,10 @@ pub fn law_utf8()
 pub fn law_tokens_utf8()
     ensures reading { (start : ℕ) (text : List ℕ) (tree : Tree) (tokens : List Token) → Reads start text tree tokens → AllByRecursion HasUtf8 tokens }
     ensures given { (start : ℕ) (p : List ℕ) (given : List Token) (s : LexState) → Stands start p given s → AllByRecursion HasUtf8 given }
+{}
+
+/// Behind one text there is one place for a fault: that of the token which the next byte goes on with
+/// or begins.
+pub fn law_one_place()
+    ensures { (start : ℕ) (p : List ℕ) (at other : ℕ) → PlaceBehind start p at → PlaceBehind start p other → at ≡ other }
 {}
