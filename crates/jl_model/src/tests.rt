@@ -1,8 +1,10 @@
 //! What no clause says: that calls succeed where memory is ample.
 
 use super::quads::Quad;
+use super::scalars::Scalar;
 use super::terms::{Lit, Term};
 use super::texts::{NoMemory, Text};
+use super::trees::{Items, Json, Member, Members, Node};
 use std::alloc::Global;
 use std::test::Fail;
 
@@ -39,6 +41,70 @@ fn a_quad_is_made_and_copied(rt: HostRuntime) -> Result<(), Fail> {
     if let Some(quad) = &quad {
         let copy = quad.copy(rt.alloc())?;
         assert_eq!(rt; copy.predicate().bytes(), b"http://a/p".as_slice());
+    }
+    Ok(())
+}
+
+/// `[null, true]` at the place 4.
+fn array_of_two(alloc: Global) -> Result<Json, NoMemory> {
+    let mut items = Items::new(alloc);
+    items.push(Json::scalar(5, Scalar::Null))?;
+    items.push(Json::scalar(11, Scalar::Bool(true)))?;
+    Ok(Json::array(4, items))
+}
+
+/// `{"a": [null, true]}`, whose array has the place 4 as well.
+fn object_of_one(alloc: Global) -> Result<Json, NoMemory> {
+    let mut members = Members::new(alloc);
+    members.push(Member {
+        at: 1,
+        name: Text::from_bytes(alloc, b"a")?,
+        value: array_of_two(alloc)?,
+    })?;
+    Ok(Json::object(0, members))
+}
+
+/// What a value is, its place, how many parts it has, and the place of the first of them.
+fn outline(json: &Json) -> (&'static str, u64, usize, u64) {
+    match &json.node {
+        Node::Scalar(_) => ("scalar", json.at, 0, 0),
+        Node::Array(items) => {
+            let parts = items.slice();
+            (
+                "array",
+                json.at,
+                parts.len(),
+                parts.first().map_or(0, |item| item.at),
+            )
+        }
+        Node::Object(members) => {
+            let parts = members.slice();
+            (
+                "object",
+                json.at,
+                parts.len(),
+                parts.first().map_or(0, |member| member.at),
+            )
+        }
+    }
+}
+
+#[test]
+fn trees_are_made_and_copied(rt: HostRuntime) -> Result<(), Fail> {
+    let rows: [(Json, (&str, u64, usize, u64)); 5] = [
+        (Json::scalar(7, Scalar::Null), ("scalar", 7, 0, 0)),
+        (Json::array(0, Items::new(rt.alloc())), ("array", 0, 0, 0)),
+        (
+            Json::object(3, Members::new(rt.alloc())),
+            ("object", 3, 0, 0),
+        ),
+        (array_of_two(rt.alloc())?, ("array", 4, 2, 5)),
+        (object_of_one(rt.alloc())?, ("object", 0, 1, 1)),
+    ];
+    for (json, want) in rows {
+        assert_eq!(rt; outline(&json), want);
+        let copy = json.copy(rt.alloc())?;
+        assert_eq!(rt; outline(&copy), want);
     }
     Ok(())
 }
