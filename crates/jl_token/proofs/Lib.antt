@@ -19,7 +19,9 @@ mod TokenPlaces
 mod Between
 mod OneByte
 pub mod LexerCalls
+mod WholeChars
 mod PlainRuns
+mod AsciiFronts
 pub mod OneTree
 pub mod OneReading
 pub mod MeantUtf8

@@ -150,7 +150,7 @@ goes_escape c m t (inr (ts, q, h)) =
 under : (a b v : ℕ) → v < a → (leb a v && leb v b) ≡ false
 under a b v h = rw (lt-leb a v h) refl
 
-over : (a b v : ℕ) → a ≤ v → b < v → (leb a v && leb v b) ≡ false
+pub over : (a b v : ℕ) → a ≤ v → b < v → (leb a v && leb v b) ≡ false
 over a b v l h = rw (le-leb a v l, lt-leb v b h) refl
 
 -- the value of four digits

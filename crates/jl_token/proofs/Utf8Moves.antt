@@ -17,7 +17,7 @@ pub data Utf8Goes (c : ℕ) (t : List ℕ) : Type 0 where
   short : c < 128 → Utf8 t → Utf8Goes c t
   long : (l : Lead) → lead_of c ≡ Some l → Utf8Tail l.later l.low l.high t → Utf8Goes c t
 
-utf8_first : {bytes : List ℕ} → Utf8 bytes → (c : ℕ) (t : List ℕ) → bytes ≡ c ∷ t → Utf8Goes c t
+pub utf8_first : {bytes : List ℕ} → Utf8 bytes → (c : ℕ) (t : List ℕ) → bytes ≡ c ∷ t → Utf8Goes c t
 utf8_first none c t e = absurd (let x : ⊥ = cc in x)
 utf8_first (ascii {c = d} {rest = rest} l h) c t e = short (subst (λ x. x < 128) (head_is d c rest t e) l) (subst Utf8 (tail_is d c rest t e) h)
 utf8_first (wide {b = b} {whole = whole} l bytes rest f k w h) c t e =
@@ -43,10 +43,10 @@ wide_rest : (c : ℕ) (l : Lead) → lead_of c ≡ Some l → (t : List ℕ) →
 wide_rest c l e t = ((λ h. wide_back c l t e (utf8_first h c t refl)), (λ h. wide l h.0 h.1 e h.2 h.3 h.4))
 
 -- behind a later byte
-last_rest : (l h c : ℕ) → l ≤ c → c ≤ h → (t : List ℕ) → Utf8Tail zero l h (c ∷ t) ↔ Utf8 t
+pub last_rest : (l h c : ℕ) → l ≤ c → c ≤ h → (t : List ℕ) → Utf8Tail zero l h (c ∷ t) ↔ Utf8 t
 last_rest l h c a b t = ((λ k. subst Utf8 (sym (tail_is c k.2.0 t k.1 (k.3 ∙ ap (λ x. x ++ k.1) k.2.1))) k.4), (λ k. (c ∷ [], t, (c, refl, a, b), refl, k)))
 
-tail_rest : (n l h c : ℕ) → l ≤ c → c ≤ h → (t : List ℕ) → Utf8Tail (suc n) l h (c ∷ t) ↔ Utf8Tail n 128 191 t
+pub tail_rest : (n l h c : ℕ) → l ≤ c → c ≤ h → (t : List ℕ) → Utf8Tail (suc n) l h (c ∷ t) ↔ Utf8Tail n 128 191 t
 tail_rest n l h c a b t = ((λ k. (k.2.1, k.1, k.2.5, tail_is c k.2.0 t (k.2.1 ++ k.1) (k.3 ∙ ap (λ x. x ++ k.1) k.2.2), k.4)), (λ k. (c ∷ k.0, k.1, (c, k.0, refl, a, b, k.2), ap (λ x. c ∷ x) k.3, k.4)))
 
 -- bytes of escapes are ASCII

@@ -1,5 +1,7 @@
 -- Runs of bytes that mean themselves in a string, in words of the crate's own.
-use Rattle.std.specs.Prelude.{ℕ, suc, ◌+◌, ◌-◌, min, Bool, true, false, cond, ◌&&◌, not, leb, eqb, List, [], ◌∷◌, ◌++◌, length, Option, Some, None}
+use Rattle.std.specs.Prelude.{ℕ, ◌+◌, ◌-◌, Bool, true, false, ◌&&◌, not, leb, eqb, List, ◌++◌, length, take, Option, Some, None}
+use Rattle.std.specs.List.{take_while}
+use Rattle.std.specs.Str.Lossy.{utf8_valid_len}
 use Rattle.jl_model.specs.declared.tokens.Token.{Token}
 use Rattle.jl_token.specs.declared.readings.Reading.{Reading}
 use Rattle.jl_token.specs.declared.readings.Spot.{Spot}
@@ -10,14 +12,17 @@ use Rattle.jl_token.specs.declared.states.LexState.{LexState}
 use Rattle.jl_token.specs.declared.steps.LexStop.{LexStop}
 use Rattle.jl_token.specs.Lexed.{Stands, end_of_places}
 
--- ASCII from the space on, but for the quote and the backslash
-abbrev pub is_plain : ℕ → Bool
-is_plain c = not (eqb c 34) && (not (eqb c 92) && (leb 32 c && leb c 127))
+-- no quote, no backslash and no control: it means itself in a string, as a character or as a part of one
+abbrev pub is_text : ℕ → Bool
+is_text c = not (eqb c 34) && (not (eqb c 92) && leb 32 c)
 
--- how many of the first bytes are of this kind
+-- it is ASCII that means itself
+abbrev pub is_ascii_text : ℕ → Bool
+is_ascii_text c = is_text c && leb c 127
+
+-- how many of the first bytes are whole characters that mean themselves
 abbrev pub plain_len : List ℕ → ℕ
-plain_len [] = 0
-plain_len (c ∷ cs) = cond (is_plain c) (suc (plain_len cs)) 0
+plain_len bytes = utf8_valid_len (take_while is_text bytes)
 
 -- whether the next byte may begin a character of a string
 abbrev pub is_plain_place : InString → Bool
@@ -31,7 +36,7 @@ is_plain_spot _ = false
 
 -- how many bytes a run takes: none where the lexer has stopped or stands elsewhere, and none at place 2^40
 abbrev pub run_at : Bool → Reading → List ℕ → ℕ
-run_at true s bytes = min (plain_len bytes) (end_of_places - s.at)
+run_at true s bytes = plain_len (take (end_of_places - s.at) bytes)
 run_at false s bytes = 0
 
 abbrev pub run_by : Option LexStop → Reading → List ℕ → ℕ

@@ -268,6 +268,37 @@ fn utf8(rt: HostRuntime) -> Result<(), Fail> {
     Ok(())
 }
 
+/// How many bytes a run takes behind an opening quote.
+fn run_count(alloc: Global, bytes: &[u8]) -> Result<Option<usize>, AllocError> {
+    let mut lexer = Lexer::new(alloc, 0);
+    match lexer.step(alloc, b'"') {
+        Ok(_) => Ok(lexer.run(bytes).ok()),
+        Err(_) => Ok(None),
+    }
+}
+
+#[test]
+fn runs(rt: HostRuntime) -> Result<(), Fail> {
+    let rows: [(&[u8], usize); 12] = [
+        (b"", 0),
+        (b"abc\"d", 3),
+        (b"ab\\n", 2),
+        (b"a\x01", 1),
+        (b"\x7f\n", 1),
+        (b"\xc3\xa9x\"", 3),
+        (b"x\xe2\x82\xac\xf0\x9f\x98\x80", 8),
+        (b"x\xe2\x82\xac\xf0\x9f\x98", 4),
+        (b"\xc3", 0),
+        (b"a\xc3\"", 1),
+        (b"ab\xff\xc3\xa9", 2),
+        (b"ab\xed\xa0\x80", 2),
+    ];
+    for (bytes, want) in rows {
+        assert_eq!(rt; run_count(rt.alloc(), bytes)?, Some(want), "{bytes:?}");
+    }
+    Ok(())
+}
+
 #[test]
 fn structures(rt: HostRuntime) -> Result<(), Fail> {
     let rows: [(&[u8], &str); 26] = [

@@ -149,7 +149,8 @@ impl Lexer {
         Ok(self.state.reading.take_tokens(alloc, signs, at))
     }
 
-    /// Takes the first of these bytes that mean themselves inside a string, and says how many.
+    /// Takes the first of these bytes that are whole characters which mean themselves inside a
+    /// string, and says how many.
     ///
     /// It takes none outside of strings, inside a character or an escape, and after an error. They
     /// complete no token. After want of memory each call answers that.
@@ -169,7 +170,8 @@ impl Lexer {
             return Ok(0);
         }
         let room = END_OF_PLACES - self.state.reading.at;
-        let count = (plain_len(bytes) as u64).min(room) as usize;
+        let within = (bytes.len() as u64).min(room) as usize;
+        let count = plain_len(&bytes[..within]);
         match self.state.reading.run(&bytes[..count]) {
             Ok(()) => Ok(count),
             Err(NoMemory) => {
