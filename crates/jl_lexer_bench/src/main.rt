@@ -1,7 +1,7 @@
 //! Reads a made text again and again, and prints how many tokens it has: how fast is the lexer?
 //!
-//! The words are the kind of text (`nested`, `long` or `keys`) and how many millions of bytes it has,
-//! about. Run it under `time` or `valgrind --tool=callgrind`.
+//! The words are the kind of text (`nested`, `indented`, `numbers`, `long`, `wide` or `keys`) and how
+//! many millions of bytes it has, about. Run it under `time` or `valgrind --tool=callgrind`.
 #![tactic(auto)]
 
 ghost use Rattle.std.specs.Prelude.{◌≡◌, false};
@@ -46,17 +46,27 @@ fn nested(alloc: Global, number: u64) -> Result<String, AllocError> {
     )
 }
 
-/// A string of about a hundred thousand bytes, and a comma.
-fn long(alloc: Global) -> Result<String, AllocError> {
+const ASCII: &str =
+    "The quick brown fox jumps over the lazy dog, and then it runs back home again. It does so often. ";
+
+const WIDE: &str =
+    "Le renard brun saute par-dessus le chien fatigué, и потом он бежит домой. 他经常这样做。 ";
+
+/// A string of a thousand times these words, and a comma.
+fn long(alloc: Global, words: &str) -> Result<String, AllocError> {
     let mut text = String::from_str(alloc, "\"")?;
     for _ in 0..1000u16 {
-        text.push_str(
-            "The quick brown fox jumps over the lazy dog, and then it runs back home again. It does so often. ",
-        )?;
+        text.push_str(words)?;
     }
     text.push_str("\",")?;
     Ok(text)
 }
+
+/// The same record over lines, each with its indent.
+const INDENTED: &str =
+    "  {\n    \"identifier\": 12345,\n    \"labels\": [\n      \"alpha\",\n      \"beta gamma\",\n      true\n    ],\n    \"position\": {\n      \"longitude\": 1.5,\n      \"latitude\": null\n    },\n    \"description\": \"an item of the list\"\n  },\n";
+
+const NUMBERS: &str = "12345,-1.25,6.02e23,0,987654321,3.14159,";
 
 /// Reads an array of pieces.
 fn read_pieces(alloc: Global, piece: &str, times: u64, last: &str) -> Option<u64> {
@@ -115,9 +125,15 @@ fn main(rt: HostRuntime) -> io::Result<()> {
         Some(word) => {
             match word.as_str() {
                 "long" => {
-                    let piece = long(alloc)?;
+                    let piece = long(alloc, ASCII)?;
                     read_pieces(alloc, piece.as_str(), bytes / 98_003, "0]")
                 }
+                "wide" => {
+                    let piece = long(alloc, WIDE)?;
+                    read_pieces(alloc, piece.as_str(), bytes / 115_003, "0]")
+                }
+                "indented" => read_pieces(alloc, INDENTED, bytes / 216, "0]"),
+                "numbers" => read_pieces(alloc, NUMBERS, bytes / 40, "0]"),
                 "keys" => read_keys(alloc, bytes / 35)?,
                 _ => {
                     let piece = nested(alloc, 12345)?;

@@ -24,6 +24,7 @@ pub enum Kind {
 }
 
 /// The kind of a byte.
+#[inline(always)]
 #[tactic(auto, unfolding(crate::specs::Machine::kind_of))]
 pub(crate) fn kind_of(byte: u8) -> Kind
     ensures { result ≡ machine.kind_of byte }

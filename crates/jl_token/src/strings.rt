@@ -101,6 +101,7 @@ fn push_char(part: &mut Text, value: u32) -> Result<(), NoMemory>
     }
 }
 
+#[inline(always)]
 fn in_plain(part: &mut Text, byte: u8) -> Result<StringStep, NoMemory>
     ensures { IfOk result (DoesString part.old part.new (machine.plain_did byte)) }
 {
@@ -254,6 +255,7 @@ impl InString {
     }
 
     /// Takes a byte of a string whose characters so far are `part`.
+    #[inline(always)]
     pub(crate) fn read(self, part: &mut Text, byte: u8) -> Result<StringStep, NoMemory>
         requires { machine.InFormed self }
         ensures { IfOk result (DoesString part.old part.new (machine.string_did self byte)) }
