@@ -27,3 +27,4 @@ pub mod OneReading
 pub mod MeantUtf8
 pub mod TokensUtf8
 pub mod OnePlace
+pub mod OneFault

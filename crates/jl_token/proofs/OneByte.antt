@@ -51,7 +51,7 @@ module _ (once : Bool) (limit start : ℕ) where
       (l.1, t.0, given ++ l.0, t.1)
 
   -- a byte that is refused begins none
-  stuck : (p : List ℕ) (given : List Token) (s : Reading) (c : ℕ) (fault : Fault) → Holds once limit start p given s → moved once limit s c ≡ Err fault → BeginsJson once limit start (p ++ c ∷ []) → ⊥
+  pub stuck : (p : List ℕ) (given : List Token) (s : Reading) (c : ℕ) (fault : Fault) → Holds once limit start p given s → moved once limit s c ≡ Err fault → BeginsJson once limit start (p ++ c ∷ []) → ⊥
   stuck p given s c fault h e b =
       let o = h.only b.1 b.2 (c ∷ b.0) (subst (λ x. JsonText once limit b.1 start b.2 x) (append_assoc p (c ∷ []) b.0) b.3) in
       let w : Follows once limit (Err fault) o.0 b.0 = subst (λ x. Follows once limit x o.0 b.0) e (forward once limit s c o.0 b.0 o.2) in
@@ -93,9 +93,9 @@ module _ (start : ℕ) (p : List ℕ) (given : List Token) (s : Reading) (c : �
         repeated = step_holds false depth_limit start p given s c m h.formed h.repeated r.1;
       }
 
-  rule : (fault : Fault) (part : List ℕ) (code : Code) → Utf8Says code part c → RelaxedErr code fault (moved true (suc depth_limit) s c) (moved false depth_limit s c) → BreaksRule start p part c code
-  rule fault part TooDeep u d = begins true (suc depth_limit) start _ _ d.0.1 (kept true (suc depth_limit) start s c d.0 (wider s h.formed) d.1).0 (step_holds true (suc depth_limit) start p given s c d.0 (wider s h.formed) h.deeper d.1)
-  rule fault part DuplicateKey u d = begins false depth_limit start _ _ d.0.1 (kept false depth_limit start s c d.0 h.formed d.1).0 (step_holds false depth_limit start p given s c d.0 h.formed h.repeated d.1)
+  pub rule : (fault : Fault) (part : List ℕ) (code : Code) → Utf8Says code part c → RelaxedErr code fault (moved true (suc depth_limit) s c) (moved false depth_limit s c) → BreaksRule start p part c code
+  rule fault part TooDeep u d = begins true (suc depth_limit) start _ _ d.0.0.1 (kept true (suc depth_limit) start s c d.0.0 (wider s h.formed) d.0.1).0 (step_holds true (suc depth_limit) start p given s c d.0.0 (wider s h.formed) h.deeper d.0.1)
+  rule fault part DuplicateKey u d = begins false depth_limit start _ _ d.0.0.1 (kept false depth_limit start s c d.0.0 h.formed d.0.1).0 (step_holds false depth_limit start p given s c d.0.0 h.formed h.repeated d.0.1)
   rule fault part Utf8 u d = u
   rule fault part Syntax u d = (stuck true (suc depth_limit) start p given s c fault h.deeper d.0, stuck false depth_limit start p given s c fault h.repeated d.1, u)
   rule fault part _ u d = absurd d

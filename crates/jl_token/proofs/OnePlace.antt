@@ -1,5 +1,5 @@
 -- The place of the token behind a text is one.
-use Rattle.std.proofs.Common.{◌≡◌, ℕ, ◌+◌, ◌≤◌, ◌⊎◌, inl, inr, Bool, true, false, List, [], ◌∷◌, ◌++◌, length, length-append, append_assoc, append-nil, add-zero, codes, refl, sym, ap, ◌∙◌, subst, arith}
+use Rattle.std.proofs.Common.{◌≡◌, ℕ, ◌+◌, ◌≤◌, ◌⊎◌, inl, inr, Bool, true, false, List, [], ◌∷◌, ◌++◌, length, length-append, append_assoc, append-nil, add-zero, codes, drop, refl, sym, ap, ◌∙◌, subst, arith}
 use Rattle.std.specs.List.{AllByRecursion}
 use Rattle.std.proofs.lemmas.List.{append_cancel_left}
 use Rattle.jl_model.specs.JsonNumbers.{Joined, IsDigit, Digits, SomeDigits, Minus, Whole, Fraction, Signed, Exponent, IsNumber}
@@ -312,6 +312,20 @@ placed_cut start p at h =
     let c = cut_from h.bare h.front h.whole h.part 0 (last h.unfinished refl) in
     subst (λ x. Cut false x (length h.front)) (sym h.text_is) (subst (λ n. Cut false (h.front ++ h.part) n) (add-zero (length h.front)) c)
 
+one_length : (start : ℕ) (p : List ℕ) (at other : ℕ) → (h : PlaceBehind start p at) → (k : PlaceBehind start p other) → length h.front ≡ length k.front
+one_length start p at other h k = one_cut false p (length h.front) (length k.front) (placed_cut start p at h) (placed_cut start p other k)
+
 -- Behind one text there is one place.
 pub one_place : (start : ℕ) (p : List ℕ) (at other : ℕ) → PlaceBehind start p at → PlaceBehind start p other → at ≡ other
-one_place start p at other h k = h.at_is ∙ ap (λ n. start + n) (one_cut false p (length h.front) (length k.front) (placed_cut start p at h) (placed_cut start p other k)) ∙ sym k.at_is
+one_place start p at other h k = h.at_is ∙ ap (λ n. start + n) (one_length start p at other h k) ∙ sym k.at_is
+
+drop_front : (xs ys : List ℕ) → drop (length xs) (xs ++ ys) ≡ ys
+drop_front [] ys = refl
+drop_front (x ∷ xs) ys = drop_front xs ys
+
+-- And one unfinished token.
+pub one_part : (start : ℕ) (p : List ℕ) (at other : ℕ) → (h : PlaceBehind start p at) → (k : PlaceBehind start p other) → h.part ≡ k.part
+one_part start p at other h k =
+    let a : h.part ≡ drop (length h.front) p = sym (drop_front h.front h.part) ∙ ap (λ x. drop (length h.front) x) (sym h.text_is) in
+    let b : k.part ≡ drop (length k.front) p = sym (drop_front k.front k.part) ∙ ap (λ x. drop (length k.front) x) (sym k.text_is) in
+    a ∙ ap (λ n. drop n p) (one_length start p at other h k) ∙ sym b

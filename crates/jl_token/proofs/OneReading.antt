@@ -12,11 +12,11 @@ use Rattle.jl_token.proofs.OneByte.{new_is_at, step_is_at, step_breaks, end_only
 
 module _ (start : ℕ) where
   -- a front of what begins a readable text begins one
-  shorter : (p : List ℕ) (c : ℕ) (b : List ℕ) → Begins start (p ++ c ∷ b) → Begins start (p ++ c ∷ [])
+  pub shorter : (p : List ℕ) (c : ℕ) (b : List ℕ) → Begins start (p ++ c ∷ b) → Begins start (p ++ c ∷ [])
   shorter p c b h = (b ++ h.0, h.1, h.2, subst (λ x. Reads start x h.1 h.2) (append_assoc p (c ∷ b) h.0 ∙ sym (append_assoc p (c ∷ []) (b ++ h.0))) h.3)
 
   -- behind each text that begins a readable one the automaton stands somewhere
-  reached : (b p : List ℕ) (given : List Token) (s : Reading) → IsAt start p given s → Begins start (p ++ b) → (all : List Token) × (t : Reading) × IsAt start (p ++ b) all t
+  pub reached : (b p : List ℕ) (given : List Token) (s : Reading) → IsAt start p given s → Begins start (p ++ b) → (all : List Token) × (t : Reading) × IsAt start (p ++ b) all t
   reached [] p given s h g = (given, s, subst (λ x. IsAt start x given s) (sym (append-nil p)) h)
   reached (c ∷ b) p given s h g = go (moved true depth_limit s c) refl (λ (m : List Token × Reading) k. reached b (p ++ c ∷ []) (given ++ m.0) m.1 k (subst (Begins start) (sym (append_assoc p (c ∷ []) b)) g))
     where

@@ -30,8 +30,8 @@ use Rattle.jl_token.proofs.Forward.{state}
 abbrev pub RelaxedErr : Code → Fault → Moved → Moved → Type 0
 RelaxedErr Syntax f D R = (D ≡ Err f) × (R ≡ Err f)
 RelaxedErr Utf8 f D R = (D ≡ Err f) × (R ≡ Err f)
-RelaxedErr TooDeep f D R = (m : List Token × Reading) × (D ≡ Ok m)
-RelaxedErr DuplicateKey f D R = (m : List Token × Reading) × (R ≡ Ok m)
+RelaxedErr TooDeep f D R = ((m : List Token × Reading) × (D ≡ Ok m)) × (R ≡ Err f)
+RelaxedErr DuplicateKey f D R = ((m : List Token × Reading) × (R ≡ Ok m)) × (D ≡ Err f)
 RelaxedErr _ f D R = ⊥
 
 -- a move, the move with one level more, and the move where names may come again
@@ -118,7 +118,7 @@ same_text S place c (stays bytes to) = (refl, refl)
 relaxed_opened : (limit : ℕ) (S : Reading) (token : Token) (spot : Spot) (o : Open) → length S.within ≤ limit → Relaxed (opened limit S token spot o) (opened (suc limit) S token spot o) (opened limit S token spot o)
 relaxed_opened limit S token spot o f =
     let y : opened (suc limit) S token spot o ≡ Ok (token ∷ [], next S spot (o ∷ S.within)) = ap (λ b. cond b (Ok (token ∷ [], next S spot (o ∷ S.within))) (refuse TooDeep S.at)) (lt-ltb (length S.within) (suc limit) (omega arith)) in
-    cond_both (ltb (length S.within) limit) _ _ (λ X. Relaxed X (opened (suc limit) S token spot o) X) (λ _. (y, refl)) (λ _. ((token ∷ [], next S spot (o ∷ S.within)), y))
+    cond_both (ltb (length S.within) limit) _ _ (λ X. Relaxed X (opened (suc limit) S token spot o) X) (λ _. (y, refl)) (λ _. (((token ∷ [], next S spot (o ∷ S.within)), y), refl))
 
 relaxed_value : (limit : ℕ) (S : Reading) (c : ℕ) (k : Kind) → length S.within ≤ limit → Relaxed (value_begins limit S c k) (value_begins (suc limit) S c k) (value_begins limit S c k)
 relaxed_value limit S c kinds.OpenArray f = relaxed_opened limit S _ _ _ f
@@ -137,7 +137,7 @@ relaxed_first_item limit at start spot part within c k f = relaxed_value limit (
 relaxed_key_ends : (at start : ℕ) (spot : Spot) (part : List ℕ) (within : List Open) → Relaxed (key_ends true (state at start spot part within) within) (key_ends true (state at start spot part within) within) (key_ends false (state at start spot part within) within)
 relaxed_key_ends at start spot part [] = (refl, refl)
 relaxed_key_ends at start spot part (opens.Array ∷ below) = (refl, refl)
-relaxed_key_ends at start spot part (opens.Object had ∷ below) = cond_both (true && list_any (bytes_eq part) had) _ _ (λ X. Relaxed X X (key_ends false (state at start spot part (opens.Object had ∷ below)) (opens.Object had ∷ below))) (λ _. (_, refl)) (λ _. (refl, refl))
+relaxed_key_ends at start spot part (opens.Object had ∷ below) = cond_both (true && list_any (bytes_eq part) had) _ _ (λ X. Relaxed X X (key_ends false (state at start spot part (opens.Object had ∷ below)) (opens.Object had ∷ below))) (λ _. ((_, refl), refl)) (λ _. (refl, refl))
 
 relaxed_in_key : (at start : ℕ) (place : InString) (part : List ℕ) (within : List Open) (c : ℕ) (d : Did) → Relaxed (key_goes true d place (state at start (spots.InKey place) part within) c) (key_goes true d place (state at start (spots.InKey place) part within) c) (key_goes false d place (state at start (spots.InKey place) part within) c)
 relaxed_in_key at start place part within c bad = same_bad start place c

@@ -29,7 +29,7 @@ use Rattle.jl_token.specs.declared.numbers.InNumber.TheVariants.{Minus, Zero, Wh
 use Rattle.jl_token.specs.declared.words.InWord.{InWord}
 use Rattle.jl_token.specs.declared.words.InWord.TheVariants.{N, T, F}
 use Rattle.jl_token.specs.NumberMachine.{NumberEnd, number_did, is_whole, next_letter, later_letters, letters_read, word_next}
-use Rattle.jl_token.specs.StringMachine.{Did, string_did, code_of, EndOf, InFormed}
+use Rattle.jl_token.specs.StringMachine.{Did, string_did, code_of, EndOf, Utf8Rest, InFormed}
 use Rattle.jl_token.specs.StringMachine.Did.{bad, ends, stays}
 use Rattle.jl_token.specs.Machine.{Moved, moved, moved_at, kind_of, opened, value_begins, at_value, at_first_item, at_first_key, at_key, at_colon, after_value, with_token, number_goes, word_goes, in_word, text_goes, key_goes}
 use Rattle.jl_token.specs.Left.{FormedAt}
@@ -45,8 +45,7 @@ use Rattle.jl_token.proofs.Forward.{state}
 -- what a code says of the unfinished token
 abbrev pub Utf8Says : Code → List ℕ → ℕ → Type 0
 Utf8Says Utf8 part c = BreaksUtf8 part c
-Utf8Says Syntax part c = BreaksUtf8 part c → ⊥
-Utf8Says _ part c = Unit {0}
+Utf8Says _ part c = BreaksUtf8 part c → ⊥
 
 abbrev pub Places : ℕ → List ℕ → ℕ → Moved → Type 0
 Places start p c (Err f) = (place : PlaceBehind start p f.at) × Utf8Says f.code place.part c
@@ -78,7 +77,7 @@ module _ (begin : ℕ) (p : List ℕ) (c at start : ℕ) (part : List ℕ) (at_i
   here bare w = (record { bare = bare; front = p; part = []; text_is = sym (append-nil p); whole = w; unfinished = nothing; at_is = at_is }, λ (body, e, b). let x : ⊥ = cc in x)
 
   here_deep : (bare : Bool) → Pieces bare p → (place : PlaceBehind begin p at) × Utf8Says TooDeep place.part c
-  here_deep bare w = (record { bare = bare; front = p; part = []; text_is = sym (append-nil p); whole = w; unfinished = nothing; at_is = at_is }, tt)
+  here_deep bare w = (record { bare = bare; front = p; part = []; text_is = sym (append-nil p); whole = w; unfinished = nothing; at_is = at_is }, λ (body, e, b). let x : ⊥ = cc in x)
 
   -- ---- at the beginning of a token
   quote_placed : (bare : Bool) → Pieces bare p → c ≡ 34 → StringPlaced begin (p ++ c ∷ []) at [] Plain
@@ -266,6 +265,10 @@ module _ (begin : ℕ) (p : List ℕ) (c at start : ℕ) (part : List ℕ) (at_i
       );
     }
 
+    -- where the byte closes the string it is UTF-8 so far
+    closing : Utf8Rest place (c ∷ []) → BreaksUtf8 (34 ∷ h.body) c → ⊥
+    closing u (body, e, b) = b [] (subst (λ x. strings.Utf8 (x ++ c ∷ [])) (let q : h.body ≡ body = cc in q) ((h.utf8 (c ∷ [])).1 u))
+
     places_text : (within : List Open) (d : Did) → string_did place c ≡ d → DidBacks place c d → ((m t : List ℕ) → EndOf place m (c ∷ t) → DidFollows d m t) → DidUtf8 place c d → Places begin p c (text_goes d place (state at start (spots.InText place) part within) c)
     places_text within bad e b g u = bad_place e
     places_text within ends e b g u = (false, string_ends b)
@@ -273,7 +276,7 @@ module _ (begin : ℕ) (p : List ℕ) (c at start : ℕ) (part : List ℕ) (at_i
 
     places_in_key : (once : Bool) (had : List (List ℕ)) (below : List Open) (d : Did) → string_did place c ≡ d → DidBacks place c d → ((m t : List ℕ) → EndOf place m (c ∷ t) → DidFollows d m t) → DidUtf8 place c d → Places begin p c (key_goes once d place (state at start (spots.InKey place) part (opens.Object had ∷ below)) c)
     places_in_key once had below bad e b g u = bad_place e
-    places_in_key once had below ends e b g u = cond_both (once && list_any (bytes_eq part) had) _ _ (Places begin p c) (λ _. (string_place, tt)) (λ _. string_ends b)
+    places_in_key once had below ends e b g u = cond_both (once && list_any (bytes_eq part) had) _ _ (Places begin p c) (λ _. (string_place, closing u)) (λ _. string_ends b)
     places_in_key once had below (stays bytes to) e b g u = string_goes bytes to b g u
 
   places_at : (once : Bool) (limit : ℕ) (spot : Spot) (within : List Open) → FormedAt spot within → PlacedAt spot begin p start part → Places begin p c (moved_at once limit spot (state at start spot part within) c)

@@ -8,7 +8,7 @@ use Rattle.jl_model.specs.JsonStrings.Utf8.{none, ascii, wide}
 use Rattle.jl_token.specs.declared.strings.InString.{InString}
 use Rattle.jl_token.specs.declared.strings.InString.TheVariants as at
 use Rattle.jl_token.specs.StringMachine.{Did, lead_did, plain_did, tail_did, escape_did, value_did, hex_did, low_did, string_did, lead_code, code_of, Utf8Tail, Utf8Rest}
-use Rattle.jl_token.specs.StringMachine.Did.{bad, stays}
+use Rattle.jl_token.specs.StringMachine.Did.{bad, ends, stays}
 use Rattle.jl_token.proofs.Heads.{head_is, tail_is}
 use Rattle.jl_token.proofs.StringMoves.{lead_high, lead_fine, some_tail, within, both}
 
@@ -73,11 +73,12 @@ escape_ascii c =
 -- what a byte that is taken says
 abbrev pub DidUtf8 : InString → ℕ → Did → Type 0
 DidUtf8 s c (stays bytes to) = (t : List ℕ) → Utf8Rest s (c ∷ t) ↔ Utf8Rest to t
-DidUtf8 s c _ = Unit {0}
+DidUtf8 s c ends = Utf8Rest s (c ∷ [])
+DidUtf8 s c bad = Unit {0}
 
 plain_utf8 : (c : ℕ) → DidUtf8 at.Plain c (plain_did c)
 plain_utf8 c =
-    cond_both (eqb c 34) _ _ (DidUtf8 at.Plain c) (λ _. tt) (λ _.
+    cond_both (eqb c 34) _ _ (DidUtf8 at.Plain c) (λ e. ascii (omega (arith, eqb-true c 34 e)) none) (λ _.
     cond_both (eqb c 92) _ _ (DidUtf8 at.Plain c) (λ e. ascii_rest c (omega (arith, eqb-true c 92 e))) (λ _.
     cond_both (leb 32 c && leb c 127) _ _ (DidUtf8 at.Plain c) (λ e. let w = within 32 127 c e in ascii_rest c (omega (arith, w))) (λ _.
     go (lead_of c) refl)))

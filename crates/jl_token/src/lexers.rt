@@ -1,11 +1,12 @@
 //! The lexer.
-ghost use Rattle.std.specs.Prelude.{◌≡◌, ◌≤◌, ◌<◌, ◌-◌, ◌^◌, ◌++◌, ℕ, List, [], ◌∷◌, Some, None, Ok, Err, true, false, IfSome, IfNone, IfOk, IfErr, OnOk, OnErr, IsSome, IsNone, IsTrue, IsUtf8, ◌↔◌, length, min, take};
+ghost use Rattle.std.specs.Prelude.{◌≡◌, ◌≤◌, ◌<◌, ◌-◌, ◌^◌, ◌++◌, ℕ, List, [], ◌∷◌, Some, None, Ok, Err, true, false, IfSome, IfNone, IfOk, IfErr, OnOk, OnErr, IsSome, IsNone, IsTrue, IsUtf8, ◌↔◌, ◌⊎◌, length, min, take};
 ghost use Rattle.std.specs.List.{AllByRecursion};
+ghost use Rattle.jl_model.specs.declared.faults.Fault.{Fault};
 ghost use Rattle.jl_model.specs.declared.tokens.Token.{Token};
 ghost use Rattle.jl_model.specs.JsonStrings.{IsString};
 ghost use Rattle.jl_model.specs.JsonTree.{Tree};
 ghost use Rattle.jl_model.specs.JsonText.{Reads};
-ghost use Rattle.jl_model.specs.TextFaults.{PlaceBehind};
+ghost use Rattle.jl_model.specs.TextFaults.{PlaceBehind, TextFault};
 ghost use Rattle.jl_token.specs.declared.states.LexState.{LexState};
 ghost use Rattle.jl_token.specs.declared.steps.LexStop.{LexStop};
 ghost use Rattle.jl_token.specs.Machine as machine;
@@ -234,4 +235,11 @@ pub fn law_tokens_utf8()
 /// or begins.
 pub fn law_one_place()
     ensures { (start : ℕ) (p : List ℕ) (at other : ℕ) → PlaceBehind start p at → PlaceBehind start p other → at ≡ other }
+{}
+
+/// A text is readable or has a fault, not both, and its fault is one.
+pub fn law_one_fault()
+    ensures either { (start : ℕ) (text : List ℕ) → ((tree : Tree) × (tokens : List Token) × Reads start text tree tokens) ⊎ ((fault : Fault) × TextFault start text fault) }
+    ensures one { (start : ℕ) (text : List ℕ) (fault other : Fault) → TextFault start text fault → TextFault start text other → fault ≡ other }
+    ensures unread { (start : ℕ) (text : List ℕ) (fault : Fault) (tree : Tree) (tokens : List Token) → TextFault start text fault → Reads start text tree tokens → ⊥ }
 {}

@@ -14,7 +14,9 @@ mod strings;
 mod words;
 
 pub use jl_model::Token;
-pub use lexers::{Lexer, law_front, law_one_place, law_one_reading, law_tokens_utf8, law_utf8};
+pub use lexers::{
+    Lexer, law_front, law_one_fault, law_one_place, law_one_reading, law_tokens_utf8, law_utf8,
+};
 pub use names::Names;
 pub use numbers::InNumber;
 pub use opens::{Open, Opens};
