@@ -1,0 +1,5 @@
+pub mod EscapeRuns
+pub mod Fronts
+pub mod Joins
+pub mod Outcomes
+pub mod Telling

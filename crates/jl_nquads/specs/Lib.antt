@@ -1,0 +1,4 @@
+pub mod Endings
+pub mod Escapes
+pub mod LineOuts
+pub mod Puts

@@ -1,0 +1,10 @@
+//! Lines of N-Quads: the line of a quad, and an out of quads that puts their lines.
+#![tactic(auto)]
+
+mod line_outs;
+mod lines;
+#[cfg(test)]
+mod tests;
+
+pub use line_outs::LineOut;
+pub use lines::write_line;
