@@ -1,5 +1,5 @@
 -- Which texts are blank node identifiers.
-use Rattle.std.specs.Prelude.{ℕ, Bool, true, false, ◌&&◌, ◌==◌, List, [], ◌∷◌}
+use Rattle.std.specs.Prelude.{ℕ, Bool, false, ◌&&◌, ◌==◌, List, [], ◌∷◌}
 
 -- `_:` and at least one byte, which begins the label
 abbrev pub is_blank : List ℕ → Bool

@@ -1,56 +1,47 @@
 -- Flat texts: the documents that are read so far, and the quads that they say.
-use Rattle.std.specs.Prelude.{◌≡◌, ℕ, Bool, true, not, ◌&&◌, nat_le, ◌==◌, List, [], ◌∷◌, ◌++◌, None, IsTrue, codes, flat_map, map}
-use Rattle.std.specs.List.{list_all, list_any}
-use Rattle.std.specs.Str.{bytes_eq}
+-- What a string means is UTF-8, so that the form alone tells whether it is an IRI.
+use Rattle.std.specs.Prelude.{◌≡◌, ℕ, List, [], ◌∷◌, None, IsTrue, codes, map}
 use Rattle.jl_model.specs.Iris.{has_iri_form}
+use Rattle.jl_model.specs.JsonTree.{Tree, Members}
+use Rattle.jl_model.specs.JsonTree.Tree.{scalar, object}
+use Rattle.jl_model.specs.JsonTree.Members.{no_member, member}
+use Rattle.jl_model.specs.JsonText.{Reads}
 use Rattle.jl_model.specs.Parts.{Parts, xsd_string}
+use Rattle.jl_model.specs.declared.scalars.Scalar.TheVariants.{Str}
 use Rattle.jl_model.specs.declared.terms.Term.TheVariants.{Iri, Literal}
+use Rattle.jl_model.specs.declared.tokens.Token.{Token}
 
--- a member behind the first: its key and its string
+-- a member behind the first: its name and its string
 pub record Pair : Type 0 where
   pub key : List ℕ
   pub value : List ℕ
 
--- a byte that stands for itself in a string: printable ASCII but for the quote and the backslash
-abbrev pub is_plain : ℕ → Bool
-is_plain c = nat_le 32 c && (nat_le c 126 && (not (c == 34) && not (c == 92)))
+-- a member whose name is an IRI and whose value is a string, before others
+pub record OnePair (name : List ℕ) (value : Tree) (others_are : List Pair → Type 0) (pairs : List Pair) : Type 0 where
+  pub place : ℕ
+  pub text : List ℕ
+  pub others : List Pair
+  pub value_is : value ≡ scalar place (Str text)
+  pub name_is : IsTrue (has_iri_form name)
+  pub pairs_are : pairs ≡ record { key = name; value = text } ∷ others
+  pub rest : others_are others
 
--- an IRI of such bytes
-abbrev pub is_plain_iri : List ℕ → Bool
-is_plain_iri text = list_all is_plain text && has_iri_form text
+-- the members are these pairs
+abbrev pub ArePairs : Members → List Pair → Type 0
+ArePairs no_member pairs = pairs ≡ []
+ArePairs (member at name value rest) pairs = OnePair name value (ArePairs rest) pairs
 
--- the key is an IRI, and the string is plain
-abbrev pub is_flat_pair : Pair → Bool
-is_flat_pair pair = is_plain_iri pair.key && list_all is_plain pair.value
+-- the tree is an object whose first member is `@id` with an IRI, and whose further members are these pairs
+pub record IsFlat (tree : Tree) (subject : List ℕ) (pairs : List Pair) : Type 0 where
+  pub place : ℕ
+  pub at : ℕ
+  pub spot : ℕ
+  pub rest : Members
+  pub tree_is : tree ≡ object place (member at (codes "@id") (scalar spot (Str subject)) rest)
+  pub subject_is : IsTrue (has_iri_form subject)
+  pub pairs_are : ArePairs rest pairs
 
--- no text comes twice
-abbrev pub are_distinct : List (List ℕ) → Bool
-are_distinct [] = true
-are_distinct (text ∷ texts) = not (list_any (bytes_eq text) texts) && are_distinct texts
-
-abbrev pub key_of : Pair → List ℕ
-key_of pair = pair.key
-
--- a string in its quotes
-abbrev pub quoted : List ℕ → List ℕ
-quoted text = codes "\"" ++ text ++ codes "\""
-
--- a comma and a member
-abbrev pub pair_text : Pair → List ℕ
-pair_text pair = codes "," ++ quoted pair.key ++ codes ":" ++ quoted pair.value
-
--- an object without white space, whose first member has the key `@id`
-abbrev pub flat_text : List ℕ → List Pair → List ℕ
-flat_text subject pairs = codes "{\"@id\":" ++ quoted subject ++ flat_map pair_text pairs ++ codes "}"
-
--- the bytes are the flat text of this subject and these members
-pub record IsFlat (bytes subject : List ℕ) (pairs : List Pair) : Type 0 where
-  pub text : bytes ≡ flat_text subject pairs
-  pub subject_is : IsTrue (is_plain_iri subject)
-  pub pairs_are : IsTrue (list_all is_flat_pair pairs)
-  pub distinct : IsTrue (are_distinct (map key_of pairs))
-
--- the quad of a member: its key is the predicate, its string a plain literal
+-- the quad of a member: its name is the predicate, its string a plain literal
 abbrev pub quad_of : List ℕ → Pair → Parts
 quad_of subject pair = record {
   subject = Iri subject;
@@ -59,17 +50,16 @@ quad_of subject pair = record {
   graph = None;
 }
 
--- the bytes are a flat text, and these are its quads
+-- the bytes are read as a flat text, and these are its quads
 pub record Flat (bytes : List ℕ) (quads : List Parts) : Type 0 where
+  pub tree : Tree
+  pub tokens : List Token
+  pub reads : Reads 0 bytes tree tokens
   pub subject : List ℕ
   pub pairs : List Pair
-  pub is_flat : IsFlat bytes subject pairs
+  pub is_flat : IsFlat tree subject pairs
   pub quads_are : quads ≡ map (quad_of subject) pairs
 
 -- the document is accepted
 abbrev pub Accepts : List ℕ → Type 0
 Accepts bytes = (quads : List Parts) × Flat bytes quads
-
--- some accepted document begins with these bytes
-abbrev pub Begins : List ℕ → Type 0
-Begins bytes = (rest : List ℕ) × Accepts (bytes ++ rest)

@@ -15,3 +15,5 @@ pub mod JsonNumbers
 pub mod JsonStrings
 pub mod JsonText
 pub mod TextFaults
+pub mod TokenPlaces
+pub mod FlatForm

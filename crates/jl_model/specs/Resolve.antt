@@ -1,6 +1,6 @@
 -- Resolution of a reference against a base (RFC 3986, sections 5.2.2 to 5.2.4 and 5.3), over the five
 -- components of both texts.
-use Rattle.std.specs.Prelude.{ℕ, Bool, true, false, not, ◌&&◌, ◌||◌, ◌==◌, List, [], ◌∷◌, ◌++◌, Option, Some, None, codes, bytes_eq, reverse, flat_map, take_while}
+use Rattle.std.specs.Prelude.{ℕ, Bool, true, false, ◌&&◌, ◌||◌, ◌==◌, List, [], ◌∷◌, ◌++◌, Option, Some, None, codes, bytes_eq, reverse, flat_map}
 use Rattle.std.specs.List.{slice_split}
 
 -- the components of a reference; a component that is absent is no empty one

@@ -27,6 +27,9 @@ pub data Pieces : (bare : Bool) → List ℕ → Type 0 where
   number : {before piece text : List ℕ} → Pieces false before → IsNumber piece → text ≡ before ++ piece → Pieces true text
   word : {before piece text : List ℕ} → Pieces false before → IsWord piece → text ≡ before ++ piece → Pieces true text
 
+abbrev pub IsRow : List ℕ → Type 0
+IsRow text = (bare : Bool) × Pieces bare text
+
 -- nothing, or the beginning of a token that isn't whole yet, behind such a row
 pub data Unfinished : (bare : Bool) → List ℕ → Type 0 where
   nothing : {bare : Bool} → Unfinished bare []

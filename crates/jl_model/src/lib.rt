@@ -31,7 +31,9 @@ pub use quads::Quad;
 pub use scalars::Scalar;
 pub use term_parts::{Containers, DirEntry, LangEntry};
 pub use terms::{Lit, Term};
-pub use text_tests::{is_iri, is_iri_byte, is_kept_label, is_language_tag, is_scheme_byte};
+pub use text_tests::{
+    has_iri_form, is_iri, is_iri_byte, is_kept_label, is_language_tag, is_scheme_byte,
+};
 pub use texts::{NoMemory, Text};
 pub use tokens::Token;
 pub use trees::{Items, Json, Member, Members, Node};

@@ -52,7 +52,10 @@ fn first_colon(text: &[u8]) -> Option<usize>
     text.iter().position(|byte| *byte == b':')
 }
 
-fn has_iri_form(text: &[u8]) -> bool
+/// Whether the text has the form of an IRI: a scheme, a colon, and no byte that IRIs leave out.
+///
+/// It says nothing of UTF-8.
+pub fn has_iri_form(text: &[u8]) -> bool
     ensures { result ≡ iris.has_iri_form text.now }
 {
     match first_colon(text) {

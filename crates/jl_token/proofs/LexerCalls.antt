@@ -4,6 +4,7 @@ use Rattle.std.specs.Option.{option_to_list}
 use Rattle.jl_model.specs.declared.codes.Code.TheVariants.{Truncated}
 use Rattle.jl_model.specs.declared.faults.Fault.{Fault}
 use Rattle.jl_model.specs.declared.tokens.Token.{Token}
+use Rattle.jl_model.specs.TextFaults.{IsRow}
 use Rattle.jl_token.specs.declared.opens.Open.{Open}
 use Rattle.jl_token.specs.declared.readings.Reading.{Reading}
 use Rattle.jl_token.specs.declared.readings.Spot.{Spot}
@@ -18,9 +19,9 @@ use Rattle.jl_token.specs.declared.steps.Sign.TheVariants as signs
 use Rattle.jl_token.specs.Machine.{moved, finished, first, ends_in_number, ends_at}
 use Rattle.jl_token.specs.NumberMachine.{is_whole}
 use Rattle.jl_token.specs.Moves.{Halts, Finishes, stop_of, taken, after_texts}
-use Rattle.jl_token.specs.Lexed.{Stands, IsFormedReading, IsFormedBy, IsFormed, IsFront, Refuses, Takes, Stops, Ends, StopsEnd, token_of, number_of}
+use Rattle.jl_token.specs.Lexed.{Stands, IsFormedReading, IsFormedBy, IsFormed, IsFront, Refuses, Takes, AreWhole, Stops, Ends, StopsEnd, token_of, number_of}
 use Rattle.jl_token.specs.Left.{FormedAt}
-use Rattle.jl_token.specs.Stands.{IsAt}
+use Rattle.jl_token.specs.Stands.{IsAt, PlacedAt}
 use Rattle.jl_token.proofs.Between.{Between, Completes, completes, is_at_taken}
 use Rattle.jl_token.proofs.OneByte.{step_kept, new_is_at, step_is_at, step_breaks, is_at_begins, end_reads, end_only}
 
@@ -96,6 +97,26 @@ texts_taken old middle new byte at number sign e n o t = go (some_told number si
         let m = step_is_at start p given old.reading byte s.reading (ts, middle.reading) e in
         let b : Between middle.reading.spot = text_between ts middle.reading (subst Completes e (completes true 256 old.reading byte)) q.1 in
         record { reading = subst (IsAt start (p ++ byte ∷ []) (given ++ ts)) (sym (t ∙ q.0)) (is_at_taken start (p ++ byte ∷ []) (given ++ ts) middle.reading b m); goes_on = o }
+
+-- between two tokens stands a row of whole ones
+row_between : (spot : Spot) → Between spot → (start : ℕ) (p : List ℕ) (token : ℕ) (part : List ℕ) → PlacedAt spot start p token part → IsRow p
+row_between spots.Value b start p token part h = (false, h)
+row_between spots.FirstItem b start p token part h = (false, h)
+row_between spots.FirstKey b start p token part h = (false, h)
+row_between spots.Key b start p token part h = (false, h)
+row_between spots.Colon b start p token part h = (false, h)
+row_between spots.After b start p token part h = h
+row_between (spots.InKey place) b start p token part h = absurd b
+row_between (spots.InText place) b start p token part h = absurd b
+row_between (spots.InNumber place) b start p token part h = absurd b
+row_between (spots.InWord place) b start p token part h = absurd b
+
+-- the tokens of a byte end with it
+pub whole_tokens : (old : LexState) (new : Reading) (byte : ℕ) (tokens : List Token) → moved true 256 old.reading byte ≡ Ok (tokens, new) → AreWhole old byte tokens
+whole_tokens old new byte tokens e = λ start p given s. elim (subst Completes e (completes true 256 old.reading byte)) [
+  | inl none ↦ inl none
+  | inr b ↦ let m = step_is_at start p given old.reading byte s.reading (tokens, new) e in inr (row_between new.spot b start (p ++ byte ∷ []) new.start new.part m.placed)
+]
 
 pub taken_formed : (number : Bool) (sign : Sign) (r : Reading) → IsFormedReading r → IsFormedReading (after_texts number sign r)
 taken_formed true sign r f = record { depth = f.depth; spot = f.spot; place = f.place }

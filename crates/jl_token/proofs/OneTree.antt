@@ -16,10 +16,10 @@ Starts (tokens.Value at s) = Unit {0}
 Starts _ = ⊥
 
 -- tokens of two parts, the first of which has none
-blank_tokens : (K : ℕ → List Token → List ℕ → Type 0) (at : ℕ) (us : List Token) (t : List ℕ) → (h : Then Blanks K at us t) → us ≡ h.back_tokens
+pub blank_tokens : (K : ℕ → List Token → List ℕ → Type 0) (at : ℕ) (us : List Token) (t : List ℕ) → (h : Then Blanks K at us t) → us ≡ h.back_tokens
 blank_tokens K at us t h = h.tokens_are ∙ ap (λ x. x ++ h.back_tokens) h.in_first.tokens_are
 
-sign_tokens : (byte : ℕ) (made : ℕ → List Token) (K : ℕ → List Token → List ℕ → Type 0) (at : ℕ) (us : List Token) (t : List ℕ) → (h : Then (Sign byte made) K at us t) → us ≡ made at ++ h.back_tokens
+pub sign_tokens : (byte : ℕ) (made : ℕ → List Token) (K : ℕ → List Token → List ℕ → Type 0) (at : ℕ) (us : List Token) (t : List ℕ) → (h : Then (Sign byte made) K at us t) → us ≡ made at ++ h.back_tokens
 sign_tokens byte made K at us t h = h.tokens_are ∙ ap (λ x. x ++ h.back_tokens) h.in_first.tokens_are
 
 module _ (once : Bool) where
@@ -64,19 +64,19 @@ module _ (once : Bool) where
       let p = parts room v vs _ _ _ h.in_second.in_second in
       record { one = p.one; rest = p.rest; at = p.at; there = p.there; text = p.text; behind = p.behind; tokens_are = blank_tokens _ at us t h ∙ sign_tokens 44 (λ _. []) _ _ _ _ h.in_second ∙ p.tokens_are; is_value = p.is_value; are_items = p.are_items }
 
-  record KeyParts (room place : ℕ) (name : List ℕ) (v : Tree) (ms : Members) (us : List Token) : Type 0 where
-    had : List (List ℕ)
-    one : List Token
-    rest : List Token
-    at : ℕ
-    there : ℕ
-    text : List ℕ
-    behind : List ℕ
-    tokens_are : us ≡ tokens.Key place name ∷ (one ++ rest)
-    is_value : ValueText once room v at one text
-    are_members : MoreMembers once room had ms there rest behind
+  pub record KeyParts (room place : ℕ) (name : List ℕ) (v : Tree) (ms : Members) (us : List Token) : Type 0 where
+    pub had : List (List ℕ)
+    pub one : List Token
+    pub rest : List Token
+    pub at : ℕ
+    pub there : ℕ
+    pub text : List ℕ
+    pub behind : List ℕ
+    pub tokens_are : us ≡ tokens.Key place name ∷ (one ++ rest)
+    pub is_value : ValueText once room v at one text
+    pub are_members : MoreMembers once room had ms there rest behind
 
-  key_parts : (room : ℕ) (had : List (List ℕ)) (place : ℕ) (name : List ℕ) (v : Tree) (ms : Members) (at : ℕ) (us : List Token) (t : List ℕ) → MembersText once room had (member place name v ms) at us t → KeyParts room place name v ms us
+  pub key_parts : (room : ℕ) (had : List (List ℕ)) (place : ℕ) (name : List ℕ) (v : Tree) (ms : Members) (at : ℕ) (us : List Token) (t : List ℕ) → MembersText once room had (member place name v ms) at us t → KeyParts room place name v ms us
   key_parts room had place name v ms at us t h =
       let k = h.in_second in
       let c = k.in_second in
@@ -96,7 +96,7 @@ module _ (once : Bool) where
         are_members = i.in_second;
       }
 
-  more_key_parts : (room : ℕ) (had : List (List ℕ)) (place : ℕ) (name : List ℕ) (v : Tree) (ms : Members) (at : ℕ) (us : List Token) (t : List ℕ) → MoreMembers once room had (member place name v ms) at us t → KeyParts room place name v ms us
+  pub more_key_parts : (room : ℕ) (had : List (List ℕ)) (place : ℕ) (name : List ℕ) (v : Tree) (ms : Members) (at : ℕ) (us : List Token) (t : List ℕ) → MoreMembers once room had (member place name v ms) at us t → KeyParts room place name v ms us
   more_key_parts room had place name v ms at us t h =
       let p = key_parts room had place name v ms _ _ _ h.in_second.in_second in
       record { had = p.had; one = p.one; rest = p.rest; at = p.at; there = p.there; text = p.text; behind = p.behind; tokens_are = blank_tokens _ at us t h ∙ sign_tokens 44 (λ _. []) _ _ _ _ h.in_second ∙ p.tokens_are; is_value = p.is_value; are_members = p.are_members }
@@ -104,7 +104,7 @@ module _ (once : Bool) where
   close_array : (room at : ℕ) (us : List Token) (t : List ℕ) → ItemsText once room no_item at us t → (n : ℕ) × (us ≡ tokens.CloseArray n ∷ [])
   close_array room at us t h = (at + length h.front, blank_tokens _ at us t h ∙ h.in_second.tokens_are)
 
-  close_object : (room : ℕ) (had : List (List ℕ)) (at : ℕ) (us : List Token) (t : List ℕ) → MembersText once room had no_member at us t → (n : ℕ) × (us ≡ tokens.CloseObject n ∷ [])
+  pub close_object : (room : ℕ) (had : List (List ℕ)) (at : ℕ) (us : List Token) (t : List ℕ) → MembersText once room had no_member at us t → (n : ℕ) × (us ≡ tokens.CloseObject n ∷ [])
   close_object room had at us t h = (at + length h.front, blank_tokens _ at us t h ∙ h.in_second.tokens_are)
 
   -- an end and an item

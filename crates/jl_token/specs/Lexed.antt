@@ -1,14 +1,15 @@
 -- What the calls of a lexer promise.
-use Rattle.std.specs.Prelude.{◌≡◌, ℕ, ◌+◌, ◌-◌, ◌≤◌, ◌^◌, Bool, true, false, List, [], ◌∷◌, ◌++◌, length, sum_by, Option, Some, None}
+use Rattle.std.specs.Prelude.{◌≡◌, ◌⊎◌, ℕ, ◌+◌, ◌-◌, ◌≤◌, ◌^◌, Bool, true, false, List, [], ◌∷◌, ◌++◌, length, sum_by, Option, Some, None}
 use Rattle.std.specs.Option.{option_to_list}
 use Rattle.jl_model.specs.declared.codes.Code.TheVariants.{TooLong}
 use Rattle.jl_model.specs.declared.faults.Fault.{Fault}
+use Rattle.jl_model.specs.declared.scalars.Scalar.{Scalar}
 use Rattle.jl_model.specs.declared.scalars.Scalar.TheVariants as scalars
 use Rattle.jl_model.specs.declared.tokens.Token.{Token}
 use Rattle.jl_model.specs.declared.tokens.Token.TheVariants as tokens
 use Rattle.jl_model.specs.JsonTree.{Tree}
 use Rattle.jl_model.specs.JsonText.{Begins, Reads}
-use Rattle.jl_model.specs.TextFaults.{Breaks, IsTruncated}
+use Rattle.jl_model.specs.TextFaults.{IsRow, Breaks, IsTruncated}
 use Rattle.jl_token.specs.declared.readings.Reading.{Reading}
 use Rattle.jl_token.specs.declared.readings.Spot.{Spot}
 use Rattle.jl_token.specs.declared.readings.Spot.TheVariants as spots
@@ -111,6 +112,10 @@ StopsAtEnd start p NoMemory = ⊥
 abbrev pub Takes : LexState → LexState → ℕ → List Token → Type 0
 Takes old new byte tokens = (start : ℕ) (p : List ℕ) (given : List Token) → Stands start p given old → Stands start (p ++ byte ∷ []) (given ++ tokens) new
 
+-- the tokens given for a byte, if there are any, end with it: behind it stands a row of whole tokens and blanks
+abbrev pub AreWhole : LexState → ℕ → List Token → Type 0
+AreWhole old byte tokens = (start : ℕ) (p : List ℕ) (given : List Token) → Stands start p given old → (tokens ≡ []) ⊎ IsRow (p ++ byte ∷ [])
+
 -- the lexer stops at a byte
 abbrev pub Stops : LexState → ℕ → LexStop → Type 0
 Stops old byte stop = (start : ℕ) (p : List ℕ) (given : List Token) → Stands start p given old → StopsAt start p byte stop
@@ -121,6 +126,15 @@ Ends old token = (start : ℕ) (p : List ℕ) (given : List Token) → Stands st
 
 abbrev pub StopsEnd : LexState → LexStop → Type 0
 StopsEnd old stop = (start : ℕ) (p : List ℕ) (given : List Token) → Stands start p given old → StopsAtEnd start p stop
+
+-- a number as a value
+abbrev pub IsNumberScalar : Scalar → Type 0
+IsNumberScalar (scalars.Number digits) = Unit {0}
+IsNumberScalar _ = ⊥
+
+abbrev pub IsNumberToken : Token → Type 0
+IsNumberToken (tokens.Value at scalar) = IsNumberScalar scalar
+IsNumberToken _ = ⊥
 
 -- ---- the weight of what is open
 

@@ -12,7 +12,7 @@ ghost use Rattle.jl_token.specs.declared.steps.LexStop.{LexStop};
 ghost use Rattle.jl_token.specs.Machine as machine;
 ghost use Rattle.jl_token.specs.Runs.{run_len, Runs};
 ghost use Rattle.jl_token.specs.TokenTexts.{HasUtf8};
-ghost use Rattle.jl_token.specs.Lexed.{Stands, IsFront, IsFormed, Takes, Stops, Ends, StopsEnd, HasOneText, tokens_of, told, open_len};
+ghost use Rattle.jl_token.specs.Lexed.{Stands, IsFront, IsFormed, Takes, AreWhole, Stops, Ends, StopsEnd, IsNumberToken, HasOneText, tokens_of, told, open_len};
 
 use crate::readings::Reading;
 use crate::states::LexState;
@@ -140,6 +140,7 @@ impl Lexer {
     pub fn step(&mut self, alloc: Global, byte: u8) -> Result<Step, LexStop>
         requires live { self.old.ended ≡ false }
         ensures taken { IfOk result (λ step. Takes self.old self.new byte (tokens_of step)) }
+        ensures whole { IfOk result (λ step. AreWhole self.old byte (tokens_of step)) }
         ensures stops { IfErr result (λ stop. (self.new.stopped ≡ Some stop) × Stops self.old byte stop) }
         ensures again { (stop : LexStop) → self.old.stopped ≡ Some stop → (result ≡ Err stop) × (self.new ≡ self.old) }
         ensures goes_on { OnOk result (self.new.stopped ≡ None) }
@@ -189,6 +190,7 @@ impl Lexer {
     pub fn finish(&mut self, alloc: Global) -> Result<Option<Token>, LexStop>
         requires live { self.old.ended ≡ false }
         ensures read { IfOk result (λ token. Ends self.old token) }
+        ensures number { IfOk result (λ token. IfSome token IsNumberToken) }
         ensures stops { IfErr result (λ stop. (self.new.stopped ≡ Some stop) × StopsEnd self.old stop) }
         ensures again { (stop : LexStop) → self.old.stopped ≡ Some stop → (result ≡ Err stop) × (self.new ≡ self.old) }
         ensures ended { OnOk result (self.new.ended ≡ true) }

@@ -1,10 +1,10 @@
 //! Where a JSON text stands between two bytes.
 
-ghost use Rattle.std.specs.Prelude.{◌≡◌, ◌+◌, ◌-◌, ◌<◌, ◌^◌, ◌++◌, length, OnOk, OnErr, [], ◌∷◌, true, min, IsTrue, ◌↔◌};
+ghost use Rattle.std.specs.Prelude.{◌≡◌, ◌+◌, ◌-◌, ◌<◌, ◌^◌, ◌++◌, length, IfOk, IfSome, OnOk, OnErr, [], ◌∷◌, true, min, IsTrue, ◌↔◌};
 ghost use Rattle.std.specs.Option.{option_to_list};
 ghost use Rattle.jl_token.specs.Machine as machine;
 ghost use Rattle.jl_token.specs.Runs as runs;
-ghost use Rattle.jl_token.specs.Lexed.{HasNoText, HasOneText, IsFormedReading, token_of, tokens_of, told, token_len, open_len};
+ghost use Rattle.jl_token.specs.Lexed.{HasNoText, HasOneText, IsNumberToken, IsFormedReading, token_of, tokens_of, told, token_len, open_len};
 ghost use Rattle.jl_token.specs.Left.{FormedAt};
 ghost use Rattle.jl_token.specs.Moves.{taken, after_texts, Finishes};
 
@@ -161,6 +161,7 @@ impl Reading {
     /// The text ends here: a number that only the end completes, or a fault.
     pub(crate) fn finish(&mut self, alloc: Global) -> Result<Option<Token>, LexStop>
         ensures ends { Finishes result self.old }
+        ensures number { IfOk result (λ token. IfSome token IsNumberToken) }
         ensures rest { (self.new.at ≡ self.old.at) × (self.new.spot ≡ self.old.spot) × (self.new.within ≡ self.old.within) }
     {
         let fault = Fault {

@@ -1,89 +1,143 @@
 -- What a byte, a run and a piece add to what was read.
-use Rattle.std.proofs.Common.{◌≡◌, ◌<◌, ◌≤◌, ◌⊎◌, inl, inr, ℕ, ◌+◌, ◌-◌, Bool, List, [], ◌∷◌, ◌++◌, length, take, drop, fold, refl, sym, ap, ◌∙◌, subst, arith, append_assoc, append-nil, get_or}
+use Rattle.std.proofs.Common.{◌≡◌, ◌<◌, ◌≤◌, ◌⊎◌, inl, inr, ℕ, ◌+◌, ◌-◌, Bool, false, eqb, List, [], ◌∷◌, ◌++◌, length, take, drop, fold, Some, None, refl, sym, ap, ◌∙◌, subst, arith, append_assoc, append-nil, get_or}
+use Rattle.std.proofs.lemmas.Bool.{cases_Bool, eqb-true, eqb-false}
 use Rattle.std.proofs.lemmas.List.{take-append-drop, take_all, length-drop}
 use Rattle.std.proofs.lemmas.List.Sums.{fold-append}
 use Rattle.std.proofs.Math.Seq.{take-add}
-use Rattle.jl_model.specs.Flat.{Flat, Begins}
+use Rattle.jl_model.specs.Flat.{Flat}
+use Rattle.jl_model.specs.JsonText.{Reads}
 use Rattle.jl_model.specs.Parts.{Parts}
+use Rattle.jl_model.specs.TextFaults.{IsRow, Breaks}
 use Rattle.jl_model.specs.declared.codes.Code.{Code}
-use Rattle.jl_model.specs.declared.codes.Code.TheVariants.{Truncated}
-use Rattle.jl_flat_token.specs.Refusals.{IsRefused, IsRefusedFor, IsEndRefused, IsEndRefusedFor}
-use Rattle.jl_flat_token.specs.Rest.{Lexed, Reads}
-use Rattle.jl_flat_token.specs.declared.states.LexState.{LexState}
-use Rattle.jl_flat_token.specs.declared.tokens.LexStop.{LexStop}
-use Rattle.jl_flat_token.specs.declared.tokens.LexStop.TheVariants as lexing
-use Rattle.jl_flat_token.specs.declared.tokens.Token.{Token}
-use Rattle.jl_top.specs.Reading.{AreSure, Keeps, HasRead, Fed, StopCause, Stopped, EndCauseFor, EndCause, MaySay, Says, SaysSome}
+use Rattle.jl_model.specs.declared.codes.Code.TheVariants.{TooLong, NotYet}
+use Rattle.jl_model.specs.declared.faults.Fault.{Fault}
+use Rattle.jl_model.specs.declared.scalars.Scalar.TheVariants as scalars
+use Rattle.jl_model.specs.declared.tokens.Token.{Token}
+use Rattle.jl_model.specs.declared.tokens.Token.TheVariants as tokens
+use Rattle.jl_token.specs.Lexed.{Stands, IsFront, StopsAt, StopsAtEnd, Ends, IsNumberToken, end_of_places}
+use Rattle.jl_token.specs.declared.states.LexState.{LexState}
+use Rattle.jl_token.specs.declared.steps.LexStop.{LexStop}
+use Rattle.jl_token.specs.declared.steps.LexStop.TheVariants as lexing
+use Rattle.jl_token.proofs.LexerCalls.{relation}
+use Rattle.jl_top.specs.Reading.{AreSure, Keeps, HasRead, Fed, RefusalFor, StopCause, Stopped, EndCauseFor, EndCause, MaySay, Says, SaysSome, StopsSaying, LeavesAt}
 use Rattle.jl_top.specs.Said.{saying, said_by, nothing_said}
-use Rattle.jl_top.specs.Stops.{stop_for}
+use Rattle.jl_top.specs.Spots.{next, after, spot_behind}
+use Rattle.jl_top.specs.Stops.{stop_for, not_yet_for}
 use Rattle.jl_top.specs.declared.flat_readers.FlatReader.{FlatReader}
+use Rattle.jl_top.specs.declared.spots.Spot.{Spot}
+use Rattle.jl_top.specs.declared.spots.Spot.TheVariants as spots
 use Rattle.jl_top.specs.declared.stops.Stop.{Stop}
 use Rattle.jl_top.specs.declared.stops.Stop.TheVariants.{Refused, OutFault, NoMemory}
+use Rattle.jl_top.proofs.Leading.{first_out}
 use Rattle.jl_top.proofs.Puttings.{put_none, put_both}
-use Rattle.jl_top.proofs.Sure.{lexed_begins, lexed_sure, lexed_sayable, sure_more, read_flat, accepts_read}
+use Rattle.jl_top.proofs.Sure.{lexed_sure, lexed_sayable, sure_more, read_flat}
 
 -- what was read so far is sure
 pub read_sure : (bytes : List ℕ) (quads : List Parts) (reader : FlatReader) → HasRead bytes quads reader → AreSure bytes quads
 read_sure bytes quads reader read =
-    subst (λ q. AreSure bytes q) (sym read.quads_are) (lexed_sure bytes read.tokens [] reader.lexer (subst (λ ts. Lexed 0 bytes ts reader.lexer) (sym (append-nil read.tokens)) read.lexed))
+    subst (λ q. AreSure bytes q) (sym read.quads_are) (lexed_sure bytes read.tokens [] reader.lexer (subst (λ ts. Stands 0 bytes ts reader.lexer) (sym (append-nil read.tokens)) read.stands))
 
 -- the tokens of a step may be said
-pub step_may_say : (bytes : List ℕ) (quads : List Parts) (byte : ℕ) (old new : FlatReader) (toks : List Token) → (h : HasRead bytes quads old) → Lexed 0 (bytes ++ byte ∷ []) (h.tokens ++ toks) new.lexer
-    → new.subject ≡ old.subject → new.key ≡ old.key → MaySay new toks
-step_may_say bytes quads byte old new toks h lexed subject key =
+pub step_may_say : (bytes : List ℕ) (quads : List Parts) (byte : ℕ) (old new : FlatReader) (toks : List Token) → (h : HasRead bytes quads old) → Stands 0 (bytes ++ byte ∷ []) (h.tokens ++ toks) new.lexer
+    → new.subject ≡ old.subject → new.key ≡ old.key → new.spot ≡ old.spot → MaySay new toks
+step_may_say bytes quads byte old new toks h stands subject key spot =
     record {
       said = said_by h.tokens;
       keeps = record { subject = subject ∙ h.keeps.subject; key = key ∙ h.keeps.key };
-      can = lexed_sayable (bytes ++ byte ∷ []) h.tokens toks new.lexer lexed;
+      can = lexed_sayable (bytes ++ byte ∷ []) h.tokens toks new.lexer new.spot stands (h.spot ∙ ap Some (sym spot));
     }
 
 -- a byte was read, and what its tokens say was put
 pub byte_fed : (bytes : List ℕ) (quads : List Parts) (byte : ℕ) (old new : FlatReader) (toks : List Token) (told tells : List Parts → Type 0) (selects : Parts → Bool)
-    → (h : HasRead bytes quads old) → Lexed 0 (bytes ++ byte ∷ []) (h.tokens ++ toks) new.lexer → Says (said_by h.tokens) toks new told tells selects → Fed bytes quads (byte ∷ []) new told tells selects
-byte_fed bytes quads byte old new toks told tells selects h lexed says =
+    → (h : HasRead bytes quads old) → Stands 0 (bytes ++ byte ∷ []) (h.tokens ++ toks) new.lexer → new.lexer.ended ≡ false → Says (said_by h.tokens) old.spot toks new told tells selects → Fed bytes quads (byte ∷ []) new told tells selects
+byte_fed bytes quads byte old new toks told tells selects h stands live says =
     let e : said_by (h.tokens ++ toks) ≡ fold saying (said_by h.tokens) toks = fold-append saying nothing_said h.tokens toks in
     record {
       more = says.more;
       read = record {
         tokens = h.tokens ++ toks;
-        lexed = lexed;
+        stands = stands;
+        live = live;
+        spot = fold-append after (Some spots.Start) h.tokens toks ∙ ap (λ s. fold after s toks) h.spot ∙ says.spot_is;
         keeps = subst (λ s. Keeps s new) (sym e) says.keeps;
         quads_are = ap (λ q. q ++ says.more) h.quads_are ∙ sym says.more_are ∙ ap (λ s. s.quads) (sym e);
       };
       put = says.put;
     }
 
--- a byte was read, and the out failed or memory was wanting
+-- the tokens of a front, where the last of them follow the one that leaves
+shorter_front : (bytes : List ℕ) (tokens back : List Token) (token : Token) → IsFront 0 bytes (tokens ++ token ∷ back) → IsFront 0 bytes (tokens ++ token ∷ [])
+shorter_front bytes tokens back token h = record {
+  begins = h.begins;
+  first = λ r tree all reads.
+      let f = h.first r tree all reads in
+      (back ++ f.0, f.1 ∙ append_assoc tokens (token ∷ back) f.0 ∙ sym (append_assoc tokens (token ∷ []) (back ++ f.0)));
+}
+
+-- there is a token
+some_tokens : (front back toks : List Token) (token : Token) → toks ≡ front ++ token ∷ back → toks ≡ [] → ⊥
+some_tokens [] back toks token e n = let k : [] ≡ token ∷ back = sym n ∙ e in cc
+some_tokens (t ∷ front) back toks token e n = let k : [] ≡ t ∷ (front ++ token ∷ back) = sym n ∙ e in cc
+
+row_of : (bytes : List ℕ) (front back toks : List Token) (token : Token) → toks ≡ front ++ token ∷ back → (toks ≡ []) ⊎ IsRow bytes → IsRow bytes
+row_of bytes front back toks token e (inl none) = absurd (some_tokens front back toks token e none)
+row_of bytes front back toks token e (inr row) = row
+
+-- a token of the byte leaves the form
+leaves_cause : (bytes : List ℕ) (given toks : List Token) (state : LexState) (spot : Spot) (fault : Fault) → Stands 0 bytes (given ++ toks) state → (toks ≡ []) ⊎ IsRow bytes → spot_behind given ≡ Some spot → LeavesAt spot toks fault → RefusalFor bytes fault.code fault.at
+leaves_cause bytes given toks state spot fault stands whole leads h =
+    let all : given ++ toks ≡ (given ++ h.front) ++ h.token ∷ h.back = ap (λ t. given ++ t) h.tokens_are ∙ sym (append_assoc given h.front (h.token ∷ h.back)) in
+    subst (λ f. RefusalFor bytes f.code f.at) (sym h.fault_is) (record {
+      front = bytes;
+      back = [];
+      bytes_are = sym (append-nil bytes);
+      are_whole = row_of bytes h.front h.back toks h.token h.tokens_are whole;
+      tokens = given ++ h.front;
+      token = h.token;
+      are_first = shorter_front bytes (given ++ h.front) h.back h.token (subst (IsFront 0 bytes) all (relation 0 bytes (given ++ toks) state stands));
+      is_out = first_out (given ++ h.front) h.token h.there (fold-append after (Some spots.Start) given h.front ∙ ap (λ s. fold after s h.front) leads ∙ h.leads) h.leaves;
+      place = refl;
+    })
+
+saying_cause : (bytes : List ℕ) (given toks : List Token) (state : LexState) (spot : Spot) (stop : Stop) → Stands 0 bytes (given ++ toks) state → (toks ≡ []) ⊎ IsRow bytes → spot_behind given ≡ Some spot → StopsSaying spot toks stop → StopCause bytes stop
+saying_cause bytes given toks state spot (Refused fault) stands whole leads h = leaves_cause bytes given toks state spot fault stands whole leads h
+saying_cause bytes given toks state spot OutFault stands whole leads h = tt
+saying_cause bytes given toks state spot NoMemory stands whole leads h = tt
+
+-- a byte was read, and one of its tokens leaves the form, the out failed or memory was wanting
 pub byte_stopped : (bytes : List ℕ) (quads : List Parts) (byte : ℕ) (old : FlatReader) (state : LexState) (toks : List Token) (stop : Stop) (told tells : List Parts → Type 0) (selects : Parts → Bool)
-    → (h : HasRead bytes quads old) → Lexed 0 (bytes ++ byte ∷ []) (h.tokens ++ toks) state → SaysSome (said_by h.tokens) toks told tells selects → StopCause bytes (byte ∷ []) stop
+    → (h : HasRead bytes quads old) → Stands 0 (bytes ++ byte ∷ []) (h.tokens ++ toks) state → (toks ≡ []) ⊎ IsRow (bytes ++ byte ∷ []) → SaysSome (said_by h.tokens) toks told tells selects → StopsSaying old.spot toks stop
     → Stopped bytes quads (byte ∷ []) stop told tells selects
-byte_stopped bytes quads byte old state toks stop told tells selects h lexed says cause =
+byte_stopped bytes quads byte old state toks stop told tells selects h stands whole says stops =
     let tokens_are : h.tokens ++ toks ≡ (h.tokens ++ says.front) ++ says.back = ap (λ t. h.tokens ++ t) says.tokens_are ∙ sym (append_assoc h.tokens says.front says.back) in
     let e : (said_by (h.tokens ++ says.front)).quads ≡ quads ++ says.more =
     ap (λ s. s.quads) (fold-append saying nothing_said h.tokens says.front) ∙ says.more_are ∙ ap (λ q. q ++ says.more) (sym h.quads_are) in
     record {
       more = says.more;
-      sure = subst (λ q. AreSure (bytes ++ byte ∷ []) q) e (lexed_sure (bytes ++ byte ∷ []) (h.tokens ++ says.front) says.back state (subst (λ ts. Lexed 0 (bytes ++ byte ∷ []) ts state) tokens_are lexed));
+      sure = subst (λ q. AreSure (bytes ++ byte ∷ []) q) e (lexed_sure (bytes ++ byte ∷ []) (h.tokens ++ says.front) says.back state (subst (λ ts. Stands 0 (bytes ++ byte ∷ []) ts state) tokens_are stands));
       put = says.put;
-      cause = cause;
+      cause = saying_cause (bytes ++ byte ∷ []) h.tokens toks state old.spot stop stands whole h.spot stops;
     }
 
+-- with the byte the text stops being readable
+breaks_refusal : (code : Code) (at : ℕ) (bytes : List ℕ) (byte : ℕ) → Breaks 0 bytes byte (record { code = code; at = at }) → RefusalFor (bytes ++ byte ∷ []) code at
+breaks_refusal NotYet at bytes byte h = absurd h.code
+breaks_refusal TooLong at bytes byte h = absurd h.code
+breaks_refusal _ at bytes byte h = record { front = bytes; byte = byte; back = []; bytes_are = refl; breaks = h }
+
 -- the cause of a byte's refusal
-refusal_cause : (bytes : List ℕ) (byte : ℕ) (stop : LexStop) → Begins bytes → IsRefused 0 bytes byte stop → StopCause bytes (byte ∷ []) (stop_for stop)
-refusal_cause bytes byte (lexing.Refused fault) begins h =
-    record {
-      front = [];
-      byte = byte;
-      back = [];
-      piece_is = refl;
-      begins = subst Begins (sym (append-nil bytes)) begins;
-      refused = subst (λ b. IsRefusedFor 0 b byte fault.code fault.at) (sym (append-nil bytes)) h;
-    }
-refusal_cause bytes byte lexing.NoMemory begins h = tt
+refusal_cause : (bytes : List ℕ) (byte : ℕ) (stop : LexStop) → StopsAt 0 bytes byte stop → StopCause (bytes ++ byte ∷ []) (stop_for stop)
+refusal_cause bytes byte (lexing.Refused fault) h = elim (cases_Bool (eqb (0 + length bytes) end_of_places)) [
+  | inl e ↦
+      let full : 0 + length bytes ≡ end_of_places = eqb-true (0 + length bytes) end_of_places e in
+      subst (λ f. RefusalFor (bytes ++ byte ∷ []) f.code f.at) (sym (h.too_long full)) (record { front = bytes; byte = byte; back = []; bytes_are = refl; full = omega arith; place = refl })
+  | inr e ↦ breaks_refusal fault.code fault.at bytes byte (h.breaks (eqb-false (0 + length bytes) end_of_places e))
+]
+refusal_cause bytes byte lexing.NoMemory h = tt
 
 -- nothing was put before the stop
 pub stopped_first : (bytes : List ℕ) (quads : List Parts) (piece : List ℕ) (reader : FlatReader) (stop : Stop) (told : List Parts → Type 0) (selects : Parts → Bool)
-    → HasRead bytes quads reader → StopCause bytes piece stop → Stopped bytes quads piece stop told told selects
+    → HasRead bytes quads reader → StopCause (bytes ++ piece) stop → Stopped bytes quads piece stop told told selects
 stopped_first bytes quads piece reader stop told selects h cause =
     record {
       more = [];
@@ -94,24 +148,23 @@ stopped_first bytes quads piece reader stop told selects h cause =
 
 -- a byte was refused
 pub byte_refused : (bytes : List ℕ) (quads : List Parts) (byte : ℕ) (reader : FlatReader) (stop : LexStop) (told : List Parts → Type 0) (selects : Parts → Bool)
-    → HasRead bytes quads reader → IsRefused 0 bytes byte stop → Stopped bytes quads (byte ∷ []) (stop_for stop) told told selects
-byte_refused bytes quads byte reader stop told selects h refused =
-    stopped_first bytes quads (byte ∷ []) reader (stop_for stop) told selects h (refusal_cause bytes byte stop (lexed_begins bytes h.tokens reader.lexer h.lexed) refused)
+    → HasRead bytes quads reader → StopsAt 0 bytes byte stop → Stopped bytes quads (byte ∷ []) (stop_for stop) told told selects
+byte_refused bytes quads byte reader stop told selects h refused = stopped_first bytes quads (byte ∷ []) reader (stop_for stop) told selects h (refusal_cause bytes byte stop refused)
 
 -- a run was read
 pub run_fed : (bytes : List ℕ) (quads : List Parts) (run : List ℕ) (old new : FlatReader) (told : List Parts → Type 0) (selects : Parts → Bool)
-    → (h : HasRead bytes quads old) → Lexed 0 (bytes ++ run) h.tokens new.lexer → new.subject ≡ old.subject → new.key ≡ old.key → Fed bytes quads run new told told selects
-run_fed bytes quads run old new told selects h lexed subject key =
+    → (h : HasRead bytes quads old) → Stands 0 (bytes ++ run) h.tokens new.lexer → new.lexer.ended ≡ false → new.subject ≡ old.subject → new.key ≡ old.key → new.spot ≡ old.spot → Fed bytes quads run new told told selects
+run_fed bytes quads run old new told selects h stands live subject key spot =
     record {
       more = [];
-      read = record { tokens = h.tokens; lexed = lexed; keeps = record { subject = subject ∙ h.keeps.subject; key = key ∙ h.keeps.key }; quads_are = append-nil quads ∙ h.quads_are };
+      read = record { tokens = h.tokens; stands = stands; live = live; spot = h.spot ∙ ap Some (sym spot); keeps = record { subject = subject ∙ h.keeps.subject; key = key ∙ h.keeps.key }; quads_are = append-nil quads ∙ h.quads_are };
       put = put_none told told selects (λ all t. t);
     }
 
 -- nothing was read
 pub fed_none : (bytes : List ℕ) (quads : List Parts) (reader : FlatReader) (told : List Parts → Type 0) (selects : Parts → Bool) → HasRead bytes quads reader → Fed bytes quads [] reader told told selects
 fed_none bytes quads reader told selects h =
-    run_fed bytes quads [] reader reader told selects h (subst (λ b. Lexed 0 b h.tokens reader.lexer) (sym (append-nil bytes)) h.lexed) refl refl
+    run_fed bytes quads [] reader reader told selects h (subst (λ b. Stands 0 b h.tokens reader.lexer) (sym (append-nil bytes)) h.stands) h.live refl refl refl
 
 -- more of the piece was read
 pub fed_more : (bytes : List ℕ) (quads : List Parts) (xs ys : List ℕ) (r1 r2 : FlatReader) (t0 t1 t2 : List Parts → Type 0) (s0 s1 : Parts → Bool) → ((q : Parts) → s1 q ≡ s0 q)
@@ -123,18 +176,27 @@ fed_more bytes quads xs ys r1 r2 t0 t1 t2 s0 s1 same a b =
       put = put_both t0 t1 t2 s0 s1 a.more b.more same a.put b.put;
     }
 
-cause_more : (bytes xs ys zs : List ℕ) (stop : Stop) → StopCause (bytes ++ xs) ys stop → StopCause bytes (xs ++ (ys ++ zs)) stop
-cause_more bytes xs ys zs (Refused fault) h =
+-- bytes that have a fault have it also with more behind them
+refusal_more : (code : Code) (at : ℕ) (bytes more : List ℕ) → RefusalFor bytes code at → RefusalFor (bytes ++ more) code at
+refusal_more NotYet at bytes more h =
     record {
-      front = xs ++ h.front;
-      byte = h.byte;
-      back = h.back ++ zs;
-      piece_is = ap (λ t. xs ++ (t ++ zs)) h.piece_is ∙ ap (λ t. xs ++ t) (append_assoc h.front (h.byte ∷ h.back) zs) ∙ sym (append_assoc xs h.front (h.byte ∷ (h.back ++ zs)));
-      begins = subst Begins (append_assoc bytes xs h.front) h.begins;
-      refused = subst (λ b. IsRefusedFor 0 b h.byte fault.code fault.at) (append_assoc bytes xs h.front) h.refused;
+      front = h.front;
+      back = h.back ++ more;
+      bytes_are = ap (λ b. b ++ more) h.bytes_are ∙ append_assoc h.front h.back more;
+      are_whole = h.are_whole;
+      tokens = h.tokens;
+      token = h.token;
+      are_first = h.are_first;
+      is_out = h.is_out;
+      place = h.place;
     }
-cause_more bytes xs ys zs OutFault h = tt
-cause_more bytes xs ys zs NoMemory h = tt
+refusal_more TooLong at bytes more h = record { front = h.front; byte = h.byte; back = h.back ++ more; bytes_are = ap (λ b. b ++ more) h.bytes_are ∙ append_assoc h.front (h.byte ∷ h.back) more; full = h.full; place = h.place }
+refusal_more _ at bytes more h = record { front = h.front; byte = h.byte; back = h.back ++ more; bytes_are = ap (λ b. b ++ more) h.bytes_are ∙ append_assoc h.front (h.byte ∷ h.back) more; breaks = h.breaks }
+
+cause_more : (bytes more : List ℕ) (stop : Stop) → StopCause bytes stop → StopCause (bytes ++ more) stop
+cause_more bytes more (Refused fault) h = refusal_more fault.code fault.at bytes more h
+cause_more bytes more OutFault h = tt
+cause_more bytes more NoMemory h = tt
 
 -- some of the piece was read, a part behind it stopped the reading, and there are more bytes
 pub stopped_more : (bytes : List ℕ) (quads : List Parts) (xs ys zs : List ℕ) (r1 : FlatReader) (stop : Stop) (t0 t1 t2 : List Parts → Type 0) (s0 s1 : Parts → Bool) → ((q : Parts) → s1 q ≡ s0 q)
@@ -146,7 +208,7 @@ stopped_more bytes quads xs ys zs r1 stop t0 t1 t2 s0 s1 same a b =
       sure = subst (λ q. AreSure (bytes ++ (xs ++ (ys ++ zs))) q) (append_assoc quads a.more b.more)
           (subst (λ x. AreSure x ((quads ++ a.more) ++ b.more)) whole (sure_more ((bytes ++ xs) ++ ys) zs ((quads ++ a.more) ++ b.more) b.sure));
       put = put_both t0 t1 t2 s0 s1 a.more b.more same a.put b.put;
-      cause = cause_more bytes xs ys zs stop b.cause;
+      cause = subst (λ x. StopCause x stop) whole (cause_more ((bytes ++ xs) ++ ys) zs stop b.cause);
     }
 
 -- the same where nothing was read before, and the piece begins with what stopped it
@@ -159,33 +221,44 @@ stopped_wide bytes quads ys zs stop told tells selects reader h b =
     stopped_more bytes quads [] ys zs reader stop told told tells selects selects (λ q. refl) a b'
 
 -- the end of a text that is whole
-pub end_reads : (bytes : List ℕ) (quads : List Parts) (reader : FlatReader) → (h : HasRead bytes quads reader) → Reads 0 bytes h.tokens → Flat bytes quads
-end_reads bytes quads reader h reads = subst (λ q. Flat bytes q) (sym h.quads_are) (read_flat bytes h.tokens reads)
+pub end_reads : (bytes : List ℕ) (quads : List Parts) (reader : FlatReader) → (h : HasRead bytes quads reader) → Ends reader.lexer None → Flat bytes quads
+end_reads bytes quads reader h ends =
+    let r = ends 0 bytes h.tokens h.stands in
+    subst (λ q. Flat bytes q) (sym h.quads_are) (read_flat bytes r.0 h.tokens reader.spot (subst (Reads 0 bytes r.0) (append-nil h.tokens) r.1) h.spot)
 
-end_cause : (bytes : List ℕ) (code : Code) (at : ℕ) → Begins bytes → IsEndRefusedFor 0 bytes code at → EndCauseFor bytes code at
-end_cause bytes Truncated at begins h = record { place = h.0 ∙ omega arith; begins = begins; is_none = λ a. let r = accepts_read bytes a in h.1 r.0 r.1 }
-end_cause bytes _ at begins h = absurd h
+-- no flat text has a number
+number_out : (spot : Spot) (t : Token) → IsNumberToken t → next spot t ≡ None
+number_out spots.Start (tokens.Value at (scalars.Number digits)) h = refl
+number_out spots.Opened (tokens.Value at (scalars.Number digits)) h = refl
+number_out spots.Subject (tokens.Value at (scalars.Number digits)) h = refl
+number_out spots.Members (tokens.Value at (scalars.Number digits)) h = refl
+number_out spots.Member (tokens.Value at (scalars.Number digits)) h = refl
+number_out spots.Closed (tokens.Value at (scalars.Number digits)) h = refl
+number_out spot _ h = absurd h
+
+-- the end of a text whose last token is a number
+pub end_number : (bytes : List ℕ) (quads : List Parts) (reader : FlatReader) (t : Token) → HasRead bytes quads reader → Ends reader.lexer (Some t) → IsNumberToken t → EndCause bytes (not_yet_for t)
+end_number bytes quads reader t h ends number =
+    let r = ends 0 bytes h.tokens h.stands in
+    record { tree = r.0; tokens = h.tokens; token = t; reads = r.1; is_out = first_out h.tokens t reader.spot h.spot (number_out reader.spot t number); place = refl }
 
 -- the end of a text that is cut short
-pub end_refused : (bytes : List ℕ) (quads : List Parts) (reader : FlatReader) (stop : LexStop) → HasRead bytes quads reader → IsEndRefused 0 bytes stop → EndCause bytes (stop_for stop)
-end_refused bytes quads reader (lexing.Refused fault) h refused = end_cause bytes fault.code fault.at (lexed_begins bytes h.tokens reader.lexer h.lexed) refused
-end_refused bytes quads reader lexing.NoMemory h refused = absurd refused
-
--- a stop of the out, or for want of memory
-pub other_cause : (bytes piece : List ℕ) (stop : Stop) → (stop ≡ OutFault) ⊎ (stop ≡ NoMemory) → StopCause bytes piece stop
-other_cause bytes piece OutFault h = tt
-other_cause bytes piece NoMemory h = tt
-other_cause bytes piece (Refused fault) h = elim h [ inl e ↦ absurd (cc) | inr e ↦ absurd (cc) ]
+pub end_refused : (bytes : List ℕ) (stop : LexStop) → StopsAtEnd 0 bytes stop → EndCause bytes (stop_for stop)
+end_refused bytes (lexing.Refused fault) h =
+    subst (λ c. EndCauseFor bytes c fault.at) (sym h.code) (record { begins = h.begins; unreadable = h.unreadable; code = refl; place = h.place })
+end_refused bytes lexing.NoMemory h = absurd h
 
 -- an empty run
-pub run_none : (bytes : List ℕ) (quads : List Parts) (piece : List ℕ) (n : ℕ) (old new : FlatReader) → n ≤ 0 → (h : HasRead bytes quads old) → Lexed 0 (bytes ++ take n piece) h.tokens new.lexer
-    → new.subject ≡ old.subject → new.key ≡ old.key → HasRead bytes quads new
-run_none bytes quads piece n old new none h lexed subject key =
+pub run_none : (bytes : List ℕ) (quads : List Parts) (piece : List ℕ) (n : ℕ) (old new : FlatReader) → n ≤ 0 → (h : HasRead bytes quads old) → Stands 0 (bytes ++ take n piece) h.tokens new.lexer
+    → new.lexer.ended ≡ false → new.subject ≡ old.subject → new.key ≡ old.key → new.spot ≡ old.spot → HasRead bytes quads new
+run_none bytes quads piece n old new none h stands live subject key spot =
     let zero_is : n ≡ 0 = omega arith in
     let nothing : bytes ++ take n piece ≡ bytes = ap (λ k. bytes ++ take k piece) zero_is ∙ append-nil bytes in
     record {
       tokens = h.tokens;
-      lexed = subst (λ b. Lexed 0 b h.tokens new.lexer) nothing lexed;
+      stands = subst (λ b. Stands 0 b h.tokens new.lexer) nothing stands;
+      live = live;
+      spot = h.spot ∙ ap Some (sym spot);
       keeps = record { subject = subject ∙ h.keeps.subject; key = key ∙ h.keeps.key };
       quads_are = h.quads_are;
     }

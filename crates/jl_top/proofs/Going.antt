@@ -3,15 +3,13 @@ use Rattle.std.proofs.Common.{◌≡◌, ◌<◌, ◌≤◌, ℕ, ◌+◌, ◌-�
 use Rattle.std.specs.Option.{IfSome}
 use Rattle.jl_io.specs.Outside.{appended, Leaves, NoneLeft}
 use Rattle.jl_model.specs.Causes.{Rose}
-use Rattle.jl_model.specs.Flat.{Begins}
 use Rattle.jl_model.specs.Parts.{Parts}
 use Rattle.jl_model.specs.declared.codes.Code.{Code}
 use Rattle.jl_model.specs.declared.codes.Code.TheVariants.{Truncated, TooLong, NotYet}
-use Rattle.jl_flat_token.specs.Refusals.{IsRefusedFor}
 use Rattle.jl_top.specs.Blocks.{held_of, CountsLines, IsEmptyBlock, line_count}
-use Rattle.jl_top.specs.LineOuts.{TellsLines}
+use Rattle.jl_nquads.specs.LineOuts.{TellsLines}
 use Rattle.jl_top.specs.Pieces.{PutsLines, FedLines, StoppedLines, is_out_fault}
-use Rattle.jl_top.specs.Reading.{AreSure, HasRead, StopCause, EndCause, EndCauseFor}
+use Rattle.jl_top.specs.Reading.{AreSure, HasRead, StopCause, RefusalFor, EndCause, EndCauseFor}
 use Rattle.jl_top.specs.Runs.{IsFresh, Took, ReadsWhole, IsFault, HasFault, StopsFor, StopsRun, LinesAreSure, is_cut, AnswersLines, AnswersRun, Going, read_stop_for, EndsRun}
 use Rattle.jl_top.specs.declared.blocks.Block.{Block}
 use Rattle.jl_top.specs.declared.flat_readers.FlatReader.{FlatReader}
@@ -20,7 +18,6 @@ use Rattle.jl_top.specs.declared.stops.ReadStop.TheVariants.{Refused, TakeFault,
 use Rattle.jl_top.specs.declared.stops.Stop.{Stop}
 use Rattle.jl_top.specs.declared.stops.Stop.TheVariants as stops
 use Rattle.jl_top.proofs.Feeding.{read_sure}
-use Rattle.jl_top.proofs.Sure.{begins_not}
 
 leaves_nil : (left : Option (List ℕ)) → Leaves left [] left
 leaves_nil None = tt
@@ -105,7 +102,8 @@ end_whole reader block t1 t2 l0 l1 l2 w1 count (Ok u) g t l none e =
 end_whole reader block t1 t2 l0 l1 l2 w1 count (Err stop) g t l none e = tt
 
 end_fault : (code : Code) (at : ℕ) (bytes : List ℕ) (left : Option (List ℕ)) → NoneLeft left → EndCauseFor bytes code at → IsFault code at bytes true left
-end_fault Truncated at bytes left none h = record { cut_short = h; ended = refl; none_left = none }
+end_fault Truncated at bytes left none h = record { truncated = h; ended = refl; none_left = none }
+end_fault NotYet at bytes left none h = inr (record { outside = h; ended = refl; none_left = none })
 end_fault _ at bytes left none h = absurd h
 
 end_stop : (s : Stop) (reader : FlatReader) (block : Block) (t1 t2 l0 l1 l2 w1 : Option (List ℕ)) (count : ℕ) → Going reader block t1 l0 l1 w1 count → t2 ≡ appended t1 [] → Leaves l1 [] l2 → NoneLeft l1
@@ -141,30 +139,17 @@ end_lines reader block t1 t2 l0 l1 l2 w1 count result g t l e =
     (record { bytes = g.bytes; took = took_end g.bytes t1 t2 l0 l1 l2 g.took t l; puts = record { quads = g.quads; sure = read_sure g.bytes g.quads reader g.read; lines = g.lines } })
 
 -- a byte of the piece is refused
-refused_fault : (code : Code) (at : ℕ) (bytes piece front : List ℕ) (byte : ℕ) (back : List ℕ) (told_end : Bool) (left : Option (List ℕ)) → piece ≡ front ++ byte ∷ back → Begins (bytes ++ front) → IsRefusedFor 0 (bytes ++ front) byte code at
-    → IsFault code at (bytes ++ piece) told_end left
-refused_fault NotYet at bytes piece front byte back told_end left e begins h =
-    record {
-      front = bytes ++ front;
-      byte = byte;
-      back = back;
-      bytes_are = ap (λ p. bytes ++ p) e ∙ sym (append_assoc bytes front (byte ∷ back));
-      begins = begins;
-      leaves = begins_not ((bytes ++ front) ++ byte ∷ []) h.1;
-      place = h.0;
-    }
-refused_fault TooLong at bytes piece front byte back told_end left e begins h =
-    let long : length piece ≡ length front + (length back + 1) = ap length e ∙ length-append front (byte ∷ back) ∙ omega arith in
-    let a : length (bytes ++ front) ≡ length bytes + length front = length-append bytes front in
-    let b : length (bytes ++ piece) ≡ length bytes + length piece = length-append bytes piece in
-    let place : at ≡ 0 + length (bytes ++ front) = h.0 in
-    let far : at ≡ 2 ^ 40 = h.1 in
+refused_fault : (code : Code) (at : ℕ) (bytes : List ℕ) (told_end : Bool) (left : Option (List ℕ)) → RefusalFor bytes code at → IsFault code at bytes told_end left
+refused_fault NotYet at bytes told_end left h = inl h
+refused_fault TooLong at bytes told_end left h =
+    let long : length bytes ≡ length h.front + (length h.back + 1) = ap length h.bytes_are ∙ length-append h.front (h.byte ∷ h.back) ∙ omega arith in
+    let full : length h.front ≡ 2 ^ 40 = h.full in
     omega arith
-refused_fault _ at bytes piece front byte back told_end left e begins h = absurd h
+refused_fault Truncated at bytes told_end left h = absurd h.breaks.code
+refused_fault _ at bytes told_end left h = h
 
-stop_for_piece : (s : Stop) (bytes piece : List ℕ) (t2 l0 l2 : Option (List ℕ)) (told_end : Bool) → Took (bytes ++ piece) t2 l0 l2 → StopCause bytes piece s → StopsFor (read_stop_for s) t2 l0 l2 told_end
-stop_for_piece (stops.Refused fault) bytes piece t2 l0 l2 told_end took c =
-    record { bytes = bytes ++ piece; took = took; fault = refused_fault fault.code fault.at bytes piece c.front c.byte c.back told_end l2 c.piece_is c.begins c.refused }
+stop_for_piece : (s : Stop) (bytes piece : List ℕ) (t2 l0 l2 : Option (List ℕ)) (told_end : Bool) → Took (bytes ++ piece) t2 l0 l2 → StopCause (bytes ++ piece) s → StopsFor (read_stop_for s) t2 l0 l2 told_end
+stop_for_piece (stops.Refused fault) bytes piece t2 l0 l2 told_end took c = record { bytes = bytes ++ piece; took = took; fault = refused_fault fault.code fault.at (bytes ++ piece) told_end l2 c }
 stop_for_piece stops.OutFault bytes piece t2 l0 l2 told_end took c = tt
 stop_for_piece stops.NoMemory bytes piece t2 l0 l2 told_end took c = tt
 

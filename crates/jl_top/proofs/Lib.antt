@@ -1,10 +1,8 @@
-pub mod Fronts
-pub mod EscapeRuns
-pub mod Joins
 pub mod Handing
-pub mod Telling
 pub mod Puttings
 pub mod Saying
+pub mod FlatTokens
+pub mod Leading
 pub mod Sure
 pub mod Feeding
 pub mod LineFronts

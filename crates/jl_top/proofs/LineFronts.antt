@@ -4,7 +4,7 @@ use Rattle.jl_io.specs.Outside.{appended}
 use Rattle.jl_model.specs.Lines.{line}
 use Rattle.jl_model.specs.Parts.{Parts}
 use Rattle.jl_model.specs.declared.terms.Term.TheVariants.{Blank}
-use Rattle.jl_top.specs.LineOuts.{IsCut, AreLines, TellsLines}
+use Rattle.jl_nquads.specs.LineOuts.{IsCut, AreLines, TellsLines}
 use Rattle.jl_top.specs.Pieces.{PutsLines}
 use Rattle.jl_top.specs.Reading.{AreSure}
 

@@ -5,7 +5,7 @@ use Rattle.jl_io.specs.Outside.{appended}
 use Rattle.jl_model.specs.Causes.{Rose}
 use Rattle.jl_model.specs.Parts.{Parts}
 use Rattle.jl_top.specs.Blocks.{HandsOn, held_of}
-use Rattle.jl_top.specs.LineOuts.{TellsLines}
+use Rattle.jl_nquads.specs.LineOuts.{TellsLines}
 use Rattle.jl_top.specs.Pieces.{PutsLines, FedLines, StoppedLines, StopsWithLines, is_out_fault}
 use Rattle.jl_top.specs.Reading.{HasRead, WerePut, Fed, Stopped}
 use Rattle.jl_top.specs.declared.blocks.Block.{Block}
@@ -13,7 +13,7 @@ use Rattle.jl_top.specs.declared.flat_readers.FlatReader.{FlatReader}
 use Rattle.jl_top.specs.declared.stops.Stop.{Stop}
 use Rattle.jl_top.specs.declared.stops.Stop.TheVariants.{Refused, OutFault, NoMemory}
 use Rattle.jl_top.proofs.Feeding.{read_sure}
-use Rattle.jl_top.proofs.Fronts.{appended-nil}
+use Rattle.jl_nquads.proofs.Fronts.{appended-nil}
 use Rattle.jl_top.proofs.Handing.{hands_same}
 use Rattle.jl_top.proofs.LineFronts.{tells_lax, puts_front}
 

@@ -3,6 +3,7 @@ use Rattle.std.proofs.Common.{◌≡◌, ◌↔◌, ◌<◌, ◌≤◌, ◌^◌,
 use Rattle.jl_io.specs.Outside.{Leaves, NoneLeft}
 use Rattle.jl_model.specs.Causes.{HasCause, Rose}
 use Rattle.jl_model.specs.Flat.{Accepts}
+use Rattle.jl_model.specs.JsonText.{Begins, Reads}
 use Rattle.jl_model.specs.declared.codes.Code.{Code}
 use Rattle.jl_model.specs.declared.codes.Code.TheVariants.{Truncated, TooLong, NotYet}
 use Rattle.jl_top.specs.Blocks.{CountsLines}
@@ -13,6 +14,7 @@ use Rattle.jl_top.specs.Words.{is_command}
 use Rattle.jl_top.specs.declared.stops.ReadStop.{ReadStop}
 use Rattle.jl_top.specs.declared.stops.ReadStop.TheVariants.{Refused, TakeFault, OutFault, NoMemory}
 use Rattle.jl_top.proofs.Going.{memory_lines}
+use Rattle.jl_top.proofs.Sure.{no_front_out, no_text_out}
 
 -- the bytes taken are a front of those told at the beginning
 taken_front : (bytes taken : List ℕ) (left : Option (List ℕ)) → Leaves (Some bytes) taken left → (rest : List ℕ) × (bytes ≡ taken ++ rest)
@@ -23,20 +25,34 @@ all_taken : (bytes taken : List ℕ) (left : Option (List ℕ)) → Leaves (Some
 all_taken bytes taken None h k = absurd h
 all_taken bytes taken (Some rest) h k = h ∙ ap (λ r. taken ++ r) k ∙ append-nil taken
 
+-- a front of an accepted document, up to some bytes taken
+front_of : (bytes taken rest front back : List ℕ) → bytes ≡ taken ++ rest → taken ≡ front ++ back → bytes ≡ front ++ (back ++ rest)
+front_of bytes taken rest front back e f = e ∙ ap (λ t. t ++ rest) f ∙ append_assoc front back rest
+
+-- an accepted document is readable, whatever byte of it comes next
+still_begins : (bytes front back : List ℕ) (byte : ℕ) → bytes ≡ front ++ byte ∷ back → Accepts bytes → Begins 0 (front ++ byte ∷ [])
+still_begins bytes front back byte e (quads, f) =
+    (back, f.tree, f.tokens, subst (λ b. Reads 0 b f.tree f.tokens) (e ∙ sym (append_assoc front (byte ∷ []) back)) f.reads)
+
 -- an accepted document that isn't too long has no fault
 no_fault : (code : Code) (at : ℕ) (taken bytes : List ℕ) (told_end : Bool) (left : Option (List ℕ)) → Leaves (Some bytes) taken left → Accepts bytes → length bytes ≤ 2 ^ 40 → IsFault code at taken told_end left → ⊥
-no_fault NotYet at taken bytes told_end left h accepts short f =
-    let front = taken_front bytes taken left h in
-    let bytes_are : bytes ≡ (f.front ++ f.byte ∷ []) ++ (f.back ++ front.0) =
-    front.1 ∙ ap (λ t. t ++ front.0) f.bytes_are ∙ append_assoc f.front (f.byte ∷ f.back) front.0 ∙ sym (append_assoc f.front (f.byte ∷ []) (f.back ++ front.0)) in
-    f.leaves (f.back ++ front.0, subst Accepts bytes_are accepts)
-no_fault Truncated at taken bytes told_end left h accepts short f = f.cut_short.is_none (subst Accepts (all_taken bytes taken left h f.none_left) accepts)
+no_fault NotYet at taken bytes told_end left h accepts short (inl f) =
+    let t = taken_front bytes taken left h in
+    no_front_out f.front (f.back ++ t.0) f.tokens f.token f.are_first f.is_out (subst Accepts (front_of bytes taken t.0 f.front f.back t.1 f.bytes_are) accepts)
+no_fault NotYet at taken bytes told_end left h accepts short (inr f) =
+    no_text_out taken f.outside.tree f.outside.tokens f.outside.token f.outside.reads f.outside.is_out (subst Accepts (all_taken bytes taken left h f.none_left) accepts)
+no_fault Truncated at taken bytes told_end left h accepts short f =
+    let same = all_taken bytes taken left h f.none_left in
+    let a = subst Accepts same accepts in
+    f.truncated.unreadable a.1.tree a.1.tokens a.1.reads
 no_fault TooLong at taken bytes told_end left h accepts short f =
     let front = taken_front bytes taken left h in
     let longer : length bytes ≡ length taken + length front.0 = ap length front.1 ∙ length-append taken front.0 in
     let long : 2 ^ 40 < length taken = f in
     absurd (omega arith)
-no_fault _ at taken bytes told_end left h accepts short f = f
+no_fault _ at taken bytes told_end left h accepts short f =
+    let t = taken_front bytes taken left h in
+    f.breaks.breaks (still_begins bytes f.front (f.back ++ t.0) f.byte (front_of bytes taken t.0 f.front (f.byte ∷ f.back) t.1 f.bytes_are) accepts)
 
 module _ (taken left_old left_new put : Option (List ℕ)) (told_end : Bool) (quads : ℕ) where
   fault_read : (code : Code) (at : ℕ) → AnswersRead (fault_report code at quads) taken left_old left_new put

@@ -1,12 +1,10 @@
 pub mod Blocks
-pub mod Escapes
 pub mod Headline
-pub mod LineOuts
 pub mod Pieces
-pub mod Puts
 pub mod Reading
 pub mod Reports
 pub mod Runs
 pub mod Said
+pub mod Spots
 pub mod Stops
 pub mod Words

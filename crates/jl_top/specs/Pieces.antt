@@ -1,7 +1,7 @@
 -- What a piece of the input puts as lines.
 use Rattle.std.specs.Prelude.{◌≡◌, ◌≢◌, ℕ, Bool, true, false, List, ◌++◌, Option, IfSome, Result, IfErr}
 use Rattle.jl_model.specs.Parts.{Parts}
-use Rattle.jl_top.specs.LineOuts.{TellsLines}
+use Rattle.jl_nquads.specs.LineOuts.{TellsLines}
 use Rattle.jl_top.specs.Reading.{AreSure, HasRead, StopCause}
 use Rattle.jl_top.specs.declared.flat_readers.FlatReader.{FlatReader}
 use Rattle.jl_top.specs.declared.stops.Stop.{Stop}
@@ -26,7 +26,7 @@ pub record FedLines (bytes : List ℕ) (quads : List Parts) (piece : List ℕ) (
 
 -- the piece stopped the reading, and the lines of some quads were put
 pub record StoppedLines (bytes : List ℕ) (quads : List Parts) (piece : List ℕ) (stop : Stop) (put_old put_new : Option (List ℕ)) : Type 0 where
-  pub cause : StopCause bytes piece stop
+  pub cause : StopCause (bytes ++ piece) stop
   pub puts : IfSome put_old (TellsLines false quads) → PutsLines (bytes ++ piece) (is_out_fault stop) put_new
 
 -- the out fails with this answer, and hadn't with the stop before

@@ -1,16 +1,16 @@
 -- What a run of `read` says of the port.
-use Rattle.std.specs.Prelude.{◌≡◌, ℕ, ◌^◌, ◌<◌, Bool, true, false, List, [], ◌∷◌, ◌++◌, length, flat_map, Option, IfSome, Result, Ok, Err, OnOk}
+use Rattle.std.specs.Prelude.{◌≡◌, ◌⊎◌, ℕ, ◌^◌, ◌<◌, Bool, true, false, List, [], length, flat_map, Option, IfSome, Result, Ok, Err, OnOk}
 use Rattle.jl_io.specs.Outside.{Leaves, NoneLeft}
-use Rattle.jl_model.specs.Flat.{Flat, Begins}
+use Rattle.jl_model.specs.Flat.{Flat}
 use Rattle.jl_model.specs.Lines.{line}
 use Rattle.jl_model.specs.Parts.{Parts}
+use Rattle.jl_model.specs.TextFaults.{IsTruncated}
 use Rattle.jl_model.specs.declared.codes.Code.{Code}
 use Rattle.jl_model.specs.declared.codes.Code.TheVariants.{Truncated, TooLong, NotYet}
-use Rattle.jl_flat_token.specs.Places.{fault_place}
 use Rattle.jl_top.specs.Blocks.{held_of, CountsLines}
-use Rattle.jl_top.specs.LineOuts.{TellsLines}
+use Rattle.jl_nquads.specs.LineOuts.{TellsLines}
 use Rattle.jl_top.specs.Pieces.{PutsLines}
-use Rattle.jl_top.specs.Reading.{HasRead, IsCutShort, EndCause}
+use Rattle.jl_top.specs.Reading.{HasRead, LeavesForm, StopsReadable, EndsOutside, EndCause}
 use Rattle.jl_top.specs.declared.blocks.Block.{Block}
 use Rattle.jl_top.specs.declared.flat_readers.FlatReader.{FlatReader}
 use Rattle.jl_top.specs.declared.stops.ReadStop.{ReadStop}
@@ -37,28 +37,24 @@ pub record ReadsWhole (taken left_old left_new put : Option (List ℕ)) : Type 0
   pub flat : Flat bytes quads
   pub lines : IfSome put (λ told. told ≡ flat_map line quads)
 
--- the shortest front of the bytes that no accepted document begins with ends with this byte; the place is that of the string in which it stands, or its own
-pub record LeavesForm (bytes : List ℕ) (at : ℕ) : Type 0 where
-  pub front : List ℕ
-  pub byte : ℕ
-  pub back : List ℕ
-  pub bytes_are : bytes ≡ front ++ byte ∷ back
-  pub begins : Begins front
-  pub leaves : Begins (front ++ byte ∷ []) → ⊥
-  pub place : at ≡ fault_place 0 front
-
--- the end was told, and the bytes begin an accepted document and are none
+-- the end was told, and the bytes begin a readable text and are none
 pub record EndsShort (bytes : List ℕ) (at : ℕ) (told_end : Bool) (left : Option (List ℕ)) : Type 0 where
-  pub cut_short : IsCutShort bytes at
+  pub truncated : IsTruncated 0 bytes (record { code = Truncated; at = at })
+  pub ended : told_end ≡ true
+  pub none_left : NoneLeft left
+
+-- the end was told, and the last token of the bytes leaves the form of flat texts
+pub record EndsOut (bytes : List ℕ) (at : ℕ) (told_end : Bool) (left : Option (List ℕ)) : Type 0 where
+  pub outside : EndsOutside bytes at
   pub ended : told_end ≡ true
   pub none_left : NoneLeft left
 
 -- the bytes have the fault with this code at this place
 abbrev pub IsFault : Code → ℕ → List ℕ → Bool → Option (List ℕ) → Type 0
-IsFault NotYet at bytes told_end left = LeavesForm bytes at
+IsFault NotYet at bytes told_end left = LeavesForm bytes at ⊎ EndsOut bytes at told_end left
 IsFault Truncated at bytes told_end left = EndsShort bytes at told_end left
 IsFault TooLong at bytes told_end left = 2 ^ 40 < length bytes
-IsFault _ at bytes told_end left = ⊥
+IsFault code at bytes told_end left = StopsReadable bytes (record { code = code; at = at })
 
 -- the bytes taken have this fault
 pub record HasFault (code : Code) (at : ℕ) (taken left_old left_new : Option (List ℕ)) (told_end : Bool) : Type 0 where

@@ -4,8 +4,8 @@ use Rattle.jl_model.specs.Parts.{Parts}
 use Rattle.jl_model.specs.Flat.{quad_of}
 use Rattle.jl_model.specs.declared.scalars.Scalar.{Scalar}
 use Rattle.jl_model.specs.declared.scalars.Scalar.TheVariants.{Str}
-use Rattle.jl_flat_token.specs.declared.tokens.Token.{Token}
-use Rattle.jl_flat_token.specs.declared.tokens.Token.TheVariants.{Key, Value}
+use Rattle.jl_model.specs.declared.tokens.Token.{Token}
+use Rattle.jl_model.specs.declared.tokens.Token.TheVariants.{Key, Value}
 
 -- the subject and the key that are in force, and the quads said
 pub record Said : Type 0 where

@@ -4,15 +4,18 @@ ghost use Rattle.jl_model.specs.Causes.{HasCause};
 ghost use Rattle.jl_model.specs.Flat.{Flat, quad_of};
 ghost use Rattle.jl_model.specs.Parts.{Parts, AreWellFormed};
 
+use super::spots::{Spot, next_spot};
 use super::stops::Stop;
-use jl_flat_token::{LexStop, Lexer, Step, Token};
-use jl_model::{Lit, OutStop, Quad, QuadOut, Scalar, Term, Text};
+use jl_model::{Code, Fault, Lit, OutStop, Quad, QuadOut, Scalar, Term, Text, Token};
+use jl_token::{LexStop, Lexer, Step};
 use std::alloc::Global;
 
 /// A flat text that is being read. Quads are put as soon as they are sure.
 #[derive(Debug, Drop)]
 pub struct FlatReader {
     pub lexer: Lexer,
+    /// What the next token may be.
+    pub spot: Spot,
     /// The string of `@id`, once it has been read.
     pub subject: Option<Text>,
     /// The key whose value is to come.
@@ -20,8 +23,8 @@ pub struct FlatReader {
 }
 
 impl FlatReader {
-    ghost use Rattle.jl_flat_token.specs.After.{tokens_in};
-    ghost use Rattle.jl_top.specs.Reading.{HasRead, HasBegun, Fed, Stopped, EndCause, Keeps, MaySay, Says, SaysSome, CanSayString, WerePut};
+    ghost use Rattle.jl_token.specs.Lexed.{tokens_of};
+    ghost use Rattle.jl_top.specs.Reading.{HasRead, HasBegun, Fed, Stopped, EndCause, Keeps, kept, MaySay, Says, SaysSome, SaysToken, StopsSaying, CanSay, CanSayString, WerePut};
     ghost use Rattle.jl_top.specs.Said.{Said, string_said};
 
     /// A reader that has read nothing. It takes no memory.
@@ -30,6 +33,7 @@ impl FlatReader {
     {
         FlatReader {
             lexer: Lexer::new(alloc, 0),
+            spot: Spot::Start,
             subject: None,
             key: None,
         }
@@ -109,11 +113,11 @@ impl FlatReader {
 
     /// Says the tokens of a step.
     fn say_both<O: QuadOut>(&mut self, alloc: Global, step: Step, out: &mut O) -> Result<(), Stop>
-        requires { MaySay self.old (tokens_in step) }
-        ensures says { OnOk result ((said : Said) → Keeps said self.old → Says said (tokens_in step) self.new (O.tells out.old) (O.tells out.new) (O.selects out.old)) }
-        ensures stopped { OnErr result ((said : Said) → Keeps said self.old → SaysSome said (tokens_in step) (O.tells out.old) (O.tells out.new) (O.selects out.old)) }
+        requires { MaySay self.old (tokens_of step) }
+        ensures says { OnOk result ((said : Said) → Keeps said self.old → Says said self.old.spot (tokens_of step) self.new (O.tells out.old) (O.tells out.new) (O.selects out.old)) }
+        ensures stopped { OnErr result ((said : Said) → Keeps said self.old → SaysSome said (tokens_of step) (O.tells out.old) (O.tells out.new) (O.selects out.old)) }
         ensures lexer { self.new.lexer ≡ self.old.lexer }
-        ensures stop { IfErr result (λ stop. (stop ≡ Stop.OutFault) ⊎ (stop ≡ Stop.NoMemory)) }
+        ensures stop { IfErr result (StopsSaying self.old.spot (tokens_of step)) }
         ensures selects { (q : Parts) → O.selects out.new q ≡ O.selects out.old q }
         ensures cause { HasCause (O.faults out.old) (O.faults out.new) (IsErrOf result Stop.OutFault) }
         ensures beside { O.beside out.old out.new }
@@ -133,10 +137,10 @@ impl FlatReader {
         out: &mut O,
     ) -> Result<(), Stop>
         requires { MaySay self.old (option_to_list token) }
-        ensures says { OnOk result ((said : Said) → Keeps said self.old → Says said (option_to_list token) self.new (O.tells out.old) (O.tells out.new) (O.selects out.old)) }
+        ensures says { OnOk result ((said : Said) → Keeps said self.old → Says said self.old.spot (option_to_list token) self.new (O.tells out.old) (O.tells out.new) (O.selects out.old)) }
         ensures unsaid { OnErr result (WerePut (O.tells out.old) (O.tells out.new) (O.selects out.old) []) }
         ensures lexer { self.new.lexer ≡ self.old.lexer }
-        ensures stop { IfErr result (λ stop. (stop ≡ Stop.OutFault) ⊎ (stop ≡ Stop.NoMemory)) }
+        ensures stop { IfErr result (StopsSaying self.old.spot (option_to_list token)) }
         ensures selects { (q : Parts) → O.selects out.new q ≡ O.selects out.old q }
         ensures cause { HasCause (O.faults out.old) (O.faults out.new) (IsErrOf result Stop.OutFault) }
         ensures beside { O.beside out.old out.new }
@@ -147,11 +151,35 @@ impl FlatReader {
         }
     }
 
+    /// Says a token, or refuses it as the first one that leaves the form of flat texts.
     fn say<O: QuadOut>(&mut self, alloc: Global, token: Token, out: &mut O) -> Result<(), Stop>
         requires { MaySay self.old (token ∷ []) }
-        ensures says { OnOk result ((said : Said) → Keeps said self.old → Says said (token ∷ []) self.new (O.tells out.old) (O.tells out.new) (O.selects out.old)) }
+        ensures says { OnOk result ((said : Said) → Keeps said self.old → Says said self.old.spot (token ∷ []) self.new (O.tells out.old) (O.tells out.new) (O.selects out.old)) }
         ensures unsaid { OnErr result (WerePut (O.tells out.old) (O.tells out.new) (O.selects out.old) []) }
         ensures lexer { self.new.lexer ≡ self.old.lexer }
+        ensures stop { IfErr result (StopsSaying self.old.spot (token ∷ [])) }
+        ensures selects { (q : Parts) → O.selects out.new q ≡ O.selects out.old q }
+        ensures cause { HasCause (O.faults out.old) (O.faults out.new) (IsErrOf result Stop.OutFault) }
+        ensures beside { O.beside out.old out.new }
+    {
+        let Some(spot) = next_spot(self.spot, &token) else {
+            return Err(not_yet(&token));
+        };
+        self.spot = spot;
+        self.say_token(alloc, token, out)
+    }
+
+    fn say_token<O: QuadOut>(
+        &mut self,
+        alloc: Global,
+        token: Token,
+        out: &mut O,
+    ) -> Result<(), Stop>
+        requires { CanSay (kept self.old) token }
+        ensures says { OnOk result ((said : Said) → Keeps said self.old → SaysToken said token self.new (O.tells out.old) (O.tells out.new) (O.selects out.old)) }
+        ensures unsaid { OnErr result (WerePut (O.tells out.old) (O.tells out.new) (O.selects out.old) []) }
+        ensures lexer { self.new.lexer ≡ self.old.lexer }
+        ensures spot { self.new.spot ≡ self.old.spot }
         ensures stop { IfErr result (λ stop. (stop ≡ Stop.OutFault) ⊎ (stop ≡ Stop.NoMemory)) }
         ensures selects { (q : Parts) → O.selects out.new q ≡ O.selects out.old q }
         ensures cause { HasCause (O.faults out.old) (O.faults out.new) (IsErrOf result Stop.OutFault) }
@@ -178,6 +206,7 @@ impl FlatReader {
         ensures says { OnOk result ((said : Said) → Keeps said self.old → SaysString said text self.new (O.tells out.old) (O.tells out.new) (O.selects out.old)) }
         ensures unsaid { OnErr result (WerePut (O.tells out.old) (O.tells out.new) (O.selects out.old) []) }
         ensures lexer { self.new.lexer ≡ self.old.lexer }
+        ensures spot { self.new.spot ≡ self.old.spot }
         ensures stop { IfErr result (λ stop. (stop ≡ Stop.OutFault) ⊎ (stop ≡ Stop.NoMemory)) }
         ensures selects { (q : Parts) → O.selects out.new q ≡ O.selects out.old q }
         ensures cause { HasCause (O.faults out.old) (O.faults out.new) (IsErrOf result Stop.OutFault) }
@@ -196,16 +225,29 @@ impl FlatReader {
     }
 
     /// Ends the text.
-    pub fn finish(&mut self) -> Result<(), Stop>
+    pub fn finish(&mut self, alloc: Global) -> Result<(), Stop>
+        requires { HasBegun self.old }
         ensures reads { OnOk result ((bytes : List ℕ) (quads : List Parts) → HasRead bytes quads self.old → Flat bytes quads) }
         ensures refused { IfErr result (λ stop. (bytes : List ℕ) (quads : List Parts) → HasRead bytes quads self.old → EndCause bytes stop) }
     {
-        match self.lexer.finish() {
-            Ok(None) => return Ok(()),
-            Err(stop) => return Err(stop_of(stop)),
-            Ok(Some(_)) => unreachable!(),
+        match self.lexer.finish(alloc) {
+            Ok(None) => Ok(()),
+            Ok(Some(number)) => Err(not_yet(&number)),
+            Err(stop) => Err(stop_of(stop)),
         }
     }
+}
+
+ghost use Rattle.jl_top.specs.Stops.{not_yet_for};
+
+/// The token leaves the form of flat texts.
+fn not_yet(token: &Token) -> Stop
+    ensures { result ≡ not_yet_for token.now }
+{
+    Stop::Refused(Fault {
+        code: Code::NotYet,
+        at: token.at(),
+    })
 }
 
 ghost use Rattle.jl_top.specs.Reading.{WerePut, SaysString};

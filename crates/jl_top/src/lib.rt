@@ -4,11 +4,10 @@
 mod block_outs;
 mod blocks;
 mod flat_readers;
-mod line_outs;
-mod lines;
 mod pieces;
 mod reports;
 mod runs;
+mod spots;
 mod stops;
 #[cfg(test)]
 mod tests;

@@ -10,9 +10,9 @@ ghost use Rattle.jl_top.specs.Reading.{HasRead, HasBegun};
 use super::block_outs::{BlockOut, hand_on};
 use super::blocks::Block;
 use super::flat_readers::FlatReader;
-use super::line_outs::LineOut;
 use super::stops::Stop;
 use jl_io::ByteOut;
+use jl_nquads::LineOut;
 use std::alloc::Global;
 
 /// Reads a piece, and puts the lines that it makes sure to the out, through the block. Nothing is

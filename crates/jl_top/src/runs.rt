@@ -2,7 +2,7 @@
 ghost use Rattle.std.specs.Prelude.{◌≡◌, ◌<◌, ◌≤◌, ◌^◌, ℕ, List, [], false, length, IsErrOf};
 ghost use Rattle.jl_model.specs.Causes.{HasCause};
 ghost use Rattle.jl_top.specs.Blocks.{IsEmptyBlock, CountsLines};
-ghost use Rattle.jl_top.specs.Reading.{HasRead};
+ghost use Rattle.jl_top.specs.Reading.{HasRead, HasBegun};
 ghost use Rattle.jl_top.specs.Runs.{IsFresh, AnswersRun};
 
 use super::blocks::Block;
@@ -64,7 +64,7 @@ fn read_on<P: Port>(
             Err(_) => return Err(ReadStop::TakeFault),
             Ok(n) => {
                 if n == 0 {
-                    return end(reader);
+                    return end(alloc, reader);
                 }
                 if let Err(stop) = read_piece(alloc, reader, &buf[..n], port, block) {
                     return Err(read_stop_of(stop));
@@ -81,10 +81,11 @@ fn read_on<P: Port>(
 
 ghost use Rattle.jl_top.specs.Runs.{EndsRun, read_stop_for};
 
-fn end(reader: &mut FlatReader) -> Result<(), ReadStop>
+fn end(alloc: Global, reader: &mut FlatReader) -> Result<(), ReadStop>
+    requires { HasBegun reader.old }
     ensures { EndsRun reader.old result }
 {
-    match reader.finish() {
+    match reader.finish(alloc) {
         Ok(()) => return Ok(()),
         Err(stop) => return Err(read_stop_of(stop)),
     }

@@ -1,15 +1,20 @@
-use Rattle.std.proofs.Common.{subst, sym, ◌∷◌, [], ap, ◌∙◌}
-use Rattle.jl_flat_token.specs.declared.tokens.Token.TheVariants.{Value}
-use Rattle.jl_top.specs.Reading.{Says}
-use Rattle.jl_top.proofs.Fronts.{on_ok}
-use Rattle.jl_top.proofs.Saying.{token_said}
+use Rattle.std.proofs.Common.{refl, sym, ◌∙◌, ◌∷◌, []}
+use Rattle.jl_nquads.proofs.Outcomes.{on_ok, if_err_too}
+use Rattle.jl_top.proofs.Saying.{one_said, can_one, one_stops, other_stops}
 use Rattle.jl_top.proofs.flat_readers.FlatReader.say.Goals as goal
 
-pub returns-in-Str-clause-says : goal.returns-in-Str-clause-says
-returns-in-Str-clause-says g c =
-    let told = g.O.QuadOut.tells c.args.out.now in
-    let tells = g.O.QuadOut.tells c.say_string.new.out in
-    let selects = g.O.QuadOut.selects c.args.out.now in
-    on_ok c.say_string.result (λ f said keeps.
-    subst (λ t. Says said (t ∷ []) c.say_string.new.self told tells selects) (sym (c.in-Value.is ∙ ap (λ s. Value c.in-Value.at s) c.in-Str.is))
-    (token_said said c.in-Value.at c.in-Str.text c.say_string.new.self told tells selects (f said keeps))) c.say_string.ensures.says
+pub returns-in_default-clause-stop : goal.returns-in_default-clause-stop
+returns-in_default-clause-stop g c = one_stops c.args.self.now.spot c.args.token c.not_yet.result (sym c.next_spot.ensures ∙ c.in_default.is) c.not_yet.ensures
+
+pub say_token-requires : goal.say_token-requires
+say_token-requires g c = can_one c.args.self.now (record c.args.self.now { spot = c.in-Some.spot }) c.args.token c.in-Some.spot c.requires (sym c.next_spot.ensures ∙ c.in-Some.is) refl refl
+
+pub returns-clause-says : goal.returns-clause-says
+returns-clause-says g c =
+    on_ok c.say_token.result (λ f said keeps.
+    one_said said c.args.self.now.spot c.in-Some.spot c.args.token c.say_token.new.self (g.O.QuadOut.tells c.args.out.now) (g.O.QuadOut.tells c.say_token.new.out) (g.O.QuadOut.selects c.args.out.now)
+    (sym c.next_spot.ensures ∙ c.in-Some.is) c.say_token.ensures.spot (f said (record { subject = keeps.subject; key = keeps.key })))
+    c.say_token.ensures.says
+
+pub returns-clause-stop : goal.returns-clause-stop
+returns-clause-stop g c = if_err_too c.say_token.result (λ stop h. other_stops c.args.self.now.spot (c.args.token ∷ []) stop h) c.say_token.ensures.stop

@@ -1,7 +1,7 @@
 use Rattle.std.proofs.Common.{refl, sym, ◌∙◌, ◌∷◌, [], subst}
 use Rattle.jl_model.specs.Flat.{quad_of}
 use Rattle.jl_top.specs.Reading.{WerePut}
-use Rattle.jl_top.proofs.Fronts.{on_ok}
+use Rattle.jl_nquads.proofs.Outcomes.{on_ok}
 use Rattle.jl_top.proofs.Saying.{value_said}
 use Rattle.jl_top.proofs.flat_readers.FlatReader.say_string.Goals as goal
 
