@@ -1,7 +1,7 @@
 -- The bound where a document has been read up to the mark `|`.
 use Rattle.std.specs.Prelude.{◌≡◌, [], ◌∷◌, codes, refl}
-use Rattle.jl_model.specs.JsonTree.{scalar, no_item, no_member, member}
-use Rattle.jl_model.specs.declared.scalars.Scalar.TheVariants.{Str}
+use Rattle.jl_model.specs.JsonTree.{scalar, array, object, no_item, item, no_member, member}
+use Rattle.jl_model.specs.declared.scalars.Scalar.TheVariants.{Number, Str}
 use Rattle.jl_model.specs.declared.orders.Order.TheVariants.{Any, Streaming}
 use Rattle.jl_defs.specs.OpenTree.{quote, unread, in_scalar, in_array, in_object, in_key, in_member}
 use Rattle.jl_defs.proofs.RowWords.{bound_of}
@@ -50,3 +50,43 @@ row_8 = refl
 row_9 : bound_of Streaming 17 (in_member 0 no_member [] 1 (codes "@context") (in_member 12 no_member [] 13 (codes "p") unread)) ≡ 274
 unfolding bound_of
 row_9 = refl
+
+-- streaming: {"@graph":[{"@list":[{"http://a/p":"x|"}]}]}, in an ignored list nothing is an object
+row_10 : bound_of Streaming 37 (in_member 0 no_member [] 1 (codes "@graph") (in_array 10 no_item (in_member 11 no_member [] 12 (codes "@list") (in_array 20 no_item (in_member 21 no_member [] 22 (codes "http://a/p") (in_scalar 35 quote)))))) ≡ 515
+unfolding bound_of
+row_10 = refl
+
+-- streaming: {"@context":{"i":{"@id":"http://a/i","@container":"@id"}},"i":{"http://a/x":[|]}}, the entry's key is in force in its map and in the array
+row_11 : bound_of Streaming 77 (in_member 0 (member 1 (codes "@context") (object 12 (member 13 (codes "i") (object 17 (member 18 (codes "@id") (scalar 24 (Str (codes "http://a/i"))) (member 37 (codes "@container") (scalar 50 (Str (codes "@id"))) no_member))) no_member)) no_member) (57 ∷ []) 58 (codes "i") (in_member 62 no_member [] 63 (codes "http://a/x") (in_array 76 no_item unread))) ≡ 672
+unfolding bound_of
+row_11 = refl
+
+-- streaming: {"@context":{"n":{"@id":"@nest","@context":{"q":"http://a/q"}}},"n":{"q":[|]}}, under `@nest` the nest term's context and the key read last hold
+row_12 : bound_of Streaming 74 (in_member 0 (member 1 (codes "@context") (object 12 (member 13 (codes "n") (object 17 (member 18 (codes "@id") (scalar 24 (Str (codes "@nest"))) (member 32 (codes "@context") (object 43 (member 44 (codes "q") (scalar 48 (Str (codes "http://a/q"))) no_member)) no_member))) no_member)) no_member) (63 ∷ []) 64 (codes "n") (in_member 68 no_member [] 69 (codes "q") (in_array 73 no_item unread))) ≡ 819
+unfolding bound_of
+row_12 = refl
+
+-- streaming: {"@id":"http://a/s","@reverse":{"http://a/p":{|}}}, the map of `@reverse` is an object that speaks of the node round it
+row_13 : bound_of Streaming 46 (in_member 0 (member 1 (codes "@id") (scalar 7 (Str (codes "http://a/s"))) no_member) (19 ∷ []) 20 (codes "@reverse") (in_member 31 no_member [] 32 (codes "http://a/p") (in_object 45 no_member []))) ≡ 529
+unfolding bound_of
+row_13 = refl
+
+-- streaming: {"@context":{"j":{"@id":"http://a/j","@type":"@json"}},"@id":"http://a/s","j":[1,{"b|":2}]}, 6 bytes of a literal count five times; the context has 32 bytes
+row_14 : bound_of Streaming 84 (in_member 0 (member 1 (codes "@context") (object 12 (member 13 (codes "j") (object 17 (member 18 (codes "@id") (scalar 24 (Str (codes "http://a/j"))) (member 37 (codes "@type") (scalar 45 (Str (codes "@json"))) no_member))) no_member)) (member 55 (codes "@id") (scalar 61 (Str (codes "http://a/s"))) no_member)) (54 ∷ 73 ∷ []) 74 (codes "j") (in_array 78 (item (scalar 79 (Number (codes "1"))) no_item) (in_key 81 no_member [] 82))) ≡ 810
+unfolding bound_of
+row_14 = refl
+
+-- any: {"@context":{},"@type":[],"@id":"http://a/s","http://a/p":{"http://a/q":|1}}, 14 bytes wait behind 28 of members that decided the object round them
+row_15 : bound_of Any 72 (in_member 0 (member 1 (codes "@context") (object 12 no_member) (member 15 (codes "@type") (array 23 no_item) (member 26 (codes "@id") (scalar 32 (Str (codes "http://a/s"))) no_member))) (14 ∷ 25 ∷ 44 ∷ []) 45 (codes "http://a/p") (in_member 58 no_member [] 59 (codes "http://a/q") unread)) ≡ 514
+unfolding bound_of
+row_15 = refl
+
+-- streaming: {"@context":{"g":{"@id":"http://a/g","@container":["@graph","@id"]}},"g":{"http://a/k":{"http://a/p":|1}}}, the key names the graph, and is in force beside it
+row_16 : bound_of Streaming 101 (in_member 0 (member 1 (codes "@context") (object 12 (member 13 (codes "g") (object 17 (member 18 (codes "@id") (scalar 24 (Str (codes "http://a/g"))) (member 37 (codes "@container") (array 50 (item (scalar 51 (Str (codes "@graph"))) (item (scalar 60 (Str (codes "@id"))) no_item))) no_member))) no_member)) no_member) (68 ∷ []) 69 (codes "g") (in_member 73 no_member [] 74 (codes "http://a/k") (in_member 87 no_member [] 88 (codes "http://a/p") unread))) ≡ 730
+unfolding bound_of
+row_16 = refl
+
+-- streaming: {"@context":{"T":{"@id":"http://a/T","@context":{"i":"@id"}}},"@type":"T","i":"http://a/s|"}, the second run leads too; the final context weighs with the one before it
+row_17 : bound_of Streaming 89 (in_member 0 (member 1 (codes "@context") (object 12 (member 13 (codes "T") (object 17 (member 18 (codes "@id") (scalar 24 (Str (codes "http://a/T"))) (member 37 (codes "@context") (object 48 (member 49 (codes "i") (scalar 53 (Str (codes "@id"))) no_member)) no_member))) no_member)) (member 62 (codes "@type") (scalar 70 (Str (codes "T"))) no_member)) (61 ∷ 73 ∷ []) 74 (codes "i") (in_scalar 78 quote)) ≡ 537
+unfolding bound_of
+row_17 = refl

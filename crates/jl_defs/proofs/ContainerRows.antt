@@ -70,3 +70,8 @@ row_12 = refl
 row_13 : says_in_both None [] (object 0 (member 1 (codes "@context") (array 12 (item (object 13 (member 14 (codes "k") (scalar 18 (Str (codes "http://a/k"))) (member 31 (codes "i") (object 35 (member 36 (codes "@id") (scalar 42 (Str (codes "http://a/i"))) (member 55 (codes "@container") (scalar 68 (Str (codes "@index"))) (member 77 (codes "@index") (scalar 86 (Str (codes "k"))) no_member)))) no_member))) (item (object 92 (member 93 (codes "k") (scalar 97 Null) no_member)) no_item))) (member 104 (codes "@id") (scalar 110 (Str (codes "http://a/s"))) (member 123 (codes "i") (object 127 (member 128 (codes "one") (object 134 (member 135 (codes "@id") (scalar 141 (Str (codes "http://a/o"))) no_member)) (member 155 (codes "two") (object 161 (member 162 (codes "@list") (array 170 no_item) no_member)) no_member))) no_member)))) (codes "<http://a/s> <http://a/i> <http://a/o> .\n" ∷ codes "<http://a/s> <http://a/i> <http://www.w3.org/1999/02/22-rdf-syntax-ns#nil> .\n" ∷ []) ≡ true
 unfolding says_in_both
 row_13 = refl
+
+-- {"@context":{"i":{"@id":"http://a/i","@container":"@list"},"T":{"@id":"http://a/T","@context":{"i":{"@id":"http://a/i","@container":"@id"}}}},"@id":"http://a/s","@type":"T","i":{"http://a/x":[["y"]]}}
+row_14 : is_refused_in_both None [] (object 0 (member 1 (codes "@context") (object 12 (member 13 (codes "i") (object 17 (member 18 (codes "@id") (scalar 24 (Str (codes "http://a/i"))) (member 37 (codes "@container") (scalar 50 (Str (codes "@list"))) no_member))) (member 59 (codes "T") (object 63 (member 64 (codes "@id") (scalar 70 (Str (codes "http://a/T"))) (member 83 (codes "@context") (object 94 (member 95 (codes "i") (object 99 (member 100 (codes "@id") (scalar 106 (Str (codes "http://a/i"))) (member 119 (codes "@container") (scalar 132 (Str (codes "@id"))) no_member))) no_member)) no_member))) no_member))) (member 142 (codes "@id") (scalar 148 (Str (codes "http://a/s"))) (member 161 (codes "@type") (scalar 169 (Str (codes "T"))) (member 173 (codes "i") (object 177 (member 178 (codes "http://a/x") (array 191 (item (array 192 (item (scalar 193 (Str (codes "y"))) no_item)) no_item)) no_member)) no_member))))) (fault code.MapItem 192 ∷ []) ≡ true
+unfolding is_refused_in_both
+row_14 = refl

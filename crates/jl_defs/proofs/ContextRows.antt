@@ -195,3 +195,138 @@ row_36 = refl
 row_37 : is_refused_in_both None [] (object 0 (member 1 (codes "@context") (array 12 (item (object 13 (member 14 (codes "p") (scalar 18 (Str (codes "http://a/p"))) no_member)) (item (object 32 (member 33 (codes "p") (object 37 (member 38 (codes "@id") (scalar 44 (Str (codes "http://b/p"))) (member 57 (codes "@context") (object 68 (member 69 (codes "q") (object 73 (member 74 (codes "@id") (scalar 80 (Str (codes "http://b/q"))) (member 93 (codes "@type") (scalar 101 (Str (codes "p"))) no_member))) no_member)) no_member))) no_member)) no_item))) no_member)) (fault code.InvalidScopedContext 1 ∷ []) ≡ true
 unfolding is_refused_in_both
 row_37 = refl
+
+-- {"@context":"http://c/r"} with http://c/r handed in as {"p":1}
+row_38 : is_refused_in_both None (handed (codes "http://c/r") (object 0 (member 1 (codes "p") (scalar 5 (Number (codes "1"))) no_member)) ∷ []) (object 0 (member 1 (codes "@context") (scalar 12 (Str (codes "http://c/r"))) no_member)) (fault code.InvalidRemoteContext 1 ∷ []) ≡ true
+unfolding is_refused_in_both
+row_38 = refl
+
+-- {"@context":"http://c/r"} with http://c/r handed in as {"@context":"http://c/r"}
+row_39 : is_refused_in_both None (handed (codes "http://c/r") (object 0 (member 1 (codes "@context") (scalar 12 (Str (codes "http://c/r"))) no_member)) ∷ []) (object 0 (member 1 (codes "@context") (scalar 12 (Str (codes "http://c/r"))) no_member)) (fault code.ContextOverflow 1 ∷ []) ≡ true
+unfolding is_refused_in_both
+row_39 = refl
+
+-- {"@context":{"@import":"http://c/r"}} with http://c/r handed in as {"@context":{"@import":"http://c/r"}}
+row_40 : is_refused_in_both None (handed (codes "http://c/r") (object 0 (member 1 (codes "@context") (object 12 (member 13 (codes "@import") (scalar 23 (Str (codes "http://c/r"))) no_member)) no_member)) ∷ []) (object 0 (member 1 (codes "@context") (object 12 (member 13 (codes "@import") (scalar 23 (Str (codes "http://c/r"))) no_member)) no_member)) (fault code.InvalidContextEntry 1 ∷ []) ≡ true
+unfolding is_refused_in_both
+row_40 = refl
+
+-- {"@context":{"@import":"http://c/r"}} with http://c/r handed in as {"@context":[{}]}
+row_41 : is_refused_in_both None (handed (codes "http://c/r") (object 0 (member 1 (codes "@context") (array 12 (item (object 13 no_member) no_item)) no_member)) ∷ []) (object 0 (member 1 (codes "@context") (object 12 (member 13 (codes "@import") (scalar 23 (Str (codes "http://c/r"))) no_member)) no_member)) (fault code.InvalidRemoteContext 1 ∷ []) ≡ true
+unfolding is_refused_in_both
+row_41 = refl
+
+-- {"@context":{"@vocab":5,"@version":1.0}}
+row_42 : is_refused_in_both None [] (object 0 (member 1 (codes "@context") (object 12 (member 13 (codes "@vocab") (scalar 22 (Number (codes "5"))) (member 24 (codes "@version") (scalar 35 (Number (codes "1.0"))) no_member))) no_member)) (fault code.InvalidVersionValue 1 ∷ []) ≡ true
+unfolding is_refused_in_both
+row_42 = refl
+
+-- {"@context":{"@vocab":"x"}}
+row_43 : is_refused_in_both None [] (object 0 (member 1 (codes "@context") (object 12 (member 13 (codes "@vocab") (scalar 22 (Str (codes "x"))) no_member)) no_member)) (fault code.InvalidVocabMapping 1 ∷ []) ≡ true
+unfolding is_refused_in_both
+row_43 = refl
+
+-- {"@context":{"@language":5}}
+row_44 : is_refused_in_both None [] (object 0 (member 1 (codes "@context") (object 12 (member 13 (codes "@language") (scalar 25 (Number (codes "5"))) no_member)) no_member)) (fault code.InvalidDefaultLanguage 1 ∷ []) ≡ true
+unfolding is_refused_in_both
+row_44 = refl
+
+-- {"@context":{"@direction":"up"}}
+row_45 : is_refused_in_both None [] (object 0 (member 1 (codes "@context") (object 12 (member 13 (codes "@direction") (scalar 26 (Str (codes "up"))) no_member)) no_member)) (fault code.InvalidBaseDirection 1 ∷ []) ≡ true
+unfolding is_refused_in_both
+row_45 = refl
+
+-- {"@context":{"@propagate":"x"}}
+row_46 : is_refused_in_both None [] (object 0 (member 1 (codes "@context") (object 12 (member 13 (codes "@propagate") (scalar 26 (Str (codes "x"))) no_member)) no_member)) (fault code.InvalidPropagateValue 1 ∷ []) ≡ true
+unfolding is_refused_in_both
+row_46 = refl
+
+-- {"@context":{"@protected":"x"}}
+row_47 : is_refused_in_both None [] (object 0 (member 1 (codes "@context") (object 12 (member 13 (codes "@protected") (scalar 26 (Str (codes "x"))) no_member)) no_member)) (fault code.InvalidProtectedValue 1 ∷ []) ≡ true
+unfolding is_refused_in_both
+row_47 = refl
+
+-- {"@context":{"p":{"@id":"http://a/p","@protected":5}}}
+row_48 : is_refused_in_both None [] (object 0 (member 1 (codes "@context") (object 12 (member 13 (codes "p") (object 17 (member 18 (codes "@id") (scalar 24 (Str (codes "http://a/p"))) (member 37 (codes "@protected") (scalar 50 (Number (codes "5"))) no_member))) no_member)) no_member)) (fault code.InvalidProtectedValue 1 ∷ []) ≡ true
+unfolding is_refused_in_both
+row_48 = refl
+
+-- {"@context":{"@type":"@id"}}
+row_49 : is_refused_in_both None [] (object 0 (member 1 (codes "@context") (object 12 (member 13 (codes "@type") (scalar 21 (Str (codes "@id"))) no_member)) no_member)) (fault code.KeywordRedefinition 1 ∷ []) ≡ true
+unfolding is_refused_in_both
+row_49 = refl
+
+-- {"@context":{"@type":{"@container":"@list"}}}
+row_50 : is_refused_in_both None [] (object 0 (member 1 (codes "@context") (object 12 (member 13 (codes "@type") (object 21 (member 22 (codes "@container") (scalar 35 (Str (codes "@list"))) no_member)) no_member)) no_member)) (fault code.KeywordRedefinition 1 ∷ []) ≡ true
+unfolding is_refused_in_both
+row_50 = refl
+
+-- {"@context":{"@id":{}}}
+row_51 : is_refused_in_both None [] (object 0 (member 1 (codes "@context") (object 12 (member 13 (codes "@id") (object 19 no_member) no_member)) no_member)) (fault code.KeywordRedefinition 1 ∷ []) ≡ true
+unfolding is_refused_in_both
+row_51 = refl
+
+-- {"@context":{"p":{"@id":"http://a/p","@type":"@set"}}}
+row_52 : is_refused_in_both None [] (object 0 (member 1 (codes "@context") (object 12 (member 13 (codes "p") (object 17 (member 18 (codes "@id") (scalar 24 (Str (codes "http://a/p"))) (member 37 (codes "@type") (scalar 45 (Str (codes "@set"))) no_member))) no_member)) no_member)) (fault code.InvalidTypeMapping 1 ∷ []) ≡ true
+unfolding is_refused_in_both
+row_52 = refl
+
+-- {"@context":{"t":{"@id":"http://a/t","@container":"@type","@type":"http://a/d"}}}
+row_53 : is_refused_in_both None [] (object 0 (member 1 (codes "@context") (object 12 (member 13 (codes "t") (object 17 (member 18 (codes "@id") (scalar 24 (Str (codes "http://a/t"))) (member 37 (codes "@container") (scalar 50 (Str (codes "@type"))) (member 58 (codes "@type") (scalar 66 (Str (codes "http://a/d"))) no_member)))) no_member)) no_member)) (fault code.InvalidTypeMapping 1 ∷ []) ≡ true
+unfolding is_refused_in_both
+row_53 = refl
+
+-- {"@context":{"p":{}}}
+row_54 : is_refused_in_both None [] (object 0 (member 1 (codes "@context") (object 12 (member 13 (codes "p") (object 17 no_member) no_member)) no_member)) (fault code.InvalidIriMapping 1 ∷ []) ≡ true
+unfolding is_refused_in_both
+row_54 = refl
+
+-- {"@context":{"a:b":"http://a/c"}}
+row_55 : is_refused_in_both None [] (object 0 (member 1 (codes "@context") (object 12 (member 13 (codes "a:b") (scalar 19 (Str (codes "http://a/c"))) no_member)) no_member)) (fault code.InvalidIriMapping 1 ∷ []) ≡ true
+unfolding is_refused_in_both
+row_55 = refl
+
+-- {"@context":{"r":{"@reverse":"x"}}}
+row_56 : is_refused_in_both None [] (object 0 (member 1 (codes "@context") (object 12 (member 13 (codes "r") (object 17 (member 18 (codes "@reverse") (scalar 29 (Str (codes "x"))) no_member)) no_member)) no_member)) (fault code.InvalidIriMapping 1 ∷ []) ≡ true
+unfolding is_refused_in_both
+row_56 = refl
+
+-- {"@context":{"p":"@context"}}
+row_57 : is_refused_in_both None [] (object 0 (member 1 (codes "@context") (object 12 (member 13 (codes "p") (scalar 17 (Str (codes "@context"))) no_member)) no_member)) (fault code.InvalidKeywordAlias 1 ∷ []) ≡ true
+unfolding is_refused_in_both
+row_57 = refl
+
+-- {"@context":{"p":{"@id":"http://a/p","@language":5}}}
+row_58 : is_refused_in_both None [] (object 0 (member 1 (codes "@context") (object 12 (member 13 (codes "p") (object 17 (member 18 (codes "@id") (scalar 24 (Str (codes "http://a/p"))) (member 37 (codes "@language") (scalar 49 (Number (codes "5"))) no_member))) no_member)) no_member)) (fault code.InvalidLanguageMapping 1 ∷ []) ≡ true
+unfolding is_refused_in_both
+row_58 = refl
+
+-- {"@context":{"p":{"@id":"http://a/p","@direction":"up"}}}
+row_59 : is_refused_in_both None [] (object 0 (member 1 (codes "@context") (object 12 (member 13 (codes "p") (object 17 (member 18 (codes "@id") (scalar 24 (Str (codes "http://a/p"))) (member 37 (codes "@direction") (scalar 50 (Str (codes "up"))) no_member))) no_member)) no_member)) (fault code.InvalidBaseDirection 1 ∷ []) ≡ true
+unfolding is_refused_in_both
+row_59 = refl
+
+-- {"@context":{"p":{"@id":"http://a/p","@prefix":5}}}
+row_60 : is_refused_in_both None [] (object 0 (member 1 (codes "@context") (object 12 (member 13 (codes "p") (object 17 (member 18 (codes "@id") (scalar 24 (Str (codes "http://a/p"))) (member 37 (codes "@prefix") (scalar 47 (Number (codes "5"))) no_member))) no_member)) no_member)) (fault code.InvalidPrefixValue 1 ∷ []) ≡ true
+unfolding is_refused_in_both
+row_60 = refl
+
+-- {"@context":{"n":{"@id":"http://a/n","@nest":"@id"}}}
+row_61 : is_refused_in_both None [] (object 0 (member 1 (codes "@context") (object 12 (member 13 (codes "n") (object 17 (member 18 (codes "@id") (scalar 24 (Str (codes "http://a/n"))) (member 37 (codes "@nest") (scalar 45 (Str (codes "@id"))) no_member))) no_member)) no_member)) (fault code.InvalidNestValue 1 ∷ []) ≡ true
+unfolding is_refused_in_both
+row_61 = refl
+
+-- {"@context":{"p":{"@id":"http://a/p","@odd":1}}}
+row_62 : is_refused_in_both None [] (object 0 (member 1 (codes "@context") (object 12 (member 13 (codes "p") (object 17 (member 18 (codes "@id") (scalar 24 (Str (codes "http://a/p"))) (member 37 (codes "@odd") (scalar 44 (Number (codes "1"))) no_member))) no_member)) no_member)) (fault code.InvalidTermDefinition 1 ∷ []) ≡ true
+unfolding is_refused_in_both
+row_62 = refl
+
+-- {"@context":{"@base":"x"}}
+row_63 : is_refused_in_both None [] (object 0 (member 1 (codes "@context") (object 12 (member 13 (codes "@base") (scalar 21 (Str (codes "x"))) no_member)) no_member)) (fault code.InvalidBaseIri 1 ∷ []) ≡ true
+unfolding is_refused_in_both
+row_63 = refl
+
+-- {"@context":{"@type":{"@container":["@set"],"@protected":true},"@foo":"http://a/f","q":"@foo","p":"http://a/p"},"@id":"http://a/s","@foo":1,"q":1,"p":"x"}
+row_64 : says_in_both None [] (object 0 (member 1 (codes "@context") (object 12 (member 13 (codes "@type") (object 21 (member 22 (codes "@container") (array 35 (item (scalar 36 (Str (codes "@set"))) no_item)) (member 44 (codes "@protected") (scalar 57 (truth true)) no_member))) (member 63 (codes "@foo") (scalar 70 (Str (codes "http://a/f"))) (member 83 (codes "q") (scalar 87 (Str (codes "@foo"))) (member 94 (codes "p") (scalar 98 (Str (codes "http://a/p"))) no_member))))) (member 112 (codes "@id") (scalar 118 (Str (codes "http://a/s"))) (member 131 (codes "@foo") (scalar 138 (Number (codes "1"))) (member 140 (codes "q") (scalar 144 (Number (codes "1"))) (member 146 (codes "p") (scalar 150 (Str (codes "x"))) no_member)))))) (codes "<http://a/s> <http://a/p> \"x\" .\n" ∷ []) ≡ true
+unfolding says_in_both
+row_64 = refl

@@ -115,3 +115,13 @@ row_21 = refl
 row_22 : is_due Streaming (in_member 0 (member 1 (codes "@id") (scalar 7 (Str (codes "http://a/g"))) no_member) (19 ∷ []) 20 (codes "@graph") (in_array 29 (item (object 30 (member 31 (codes "@id") (scalar 37 (Str (codes "http://a/s"))) (member 50 (codes "http://a/p") (scalar 63 (Str (codes "x"))) no_member))) no_item) unread)) (codes "<http://a/s> <http://a/p> \"x\" <http://a/g> .\n" ∷ []) ≡ true
 unfolding is_due
 row_22 = refl
+
+-- streaming: {"@context":{"g":{"@id":"http://a/g","@container":"@list"},"T":{"@id":"http://a/T","@context":{"g":{"@id":"http://a/g","@container":["@graph","@id"]}}}},"@id":"http://a/s","@type":"T","g":{"@none":[[{"@id":"http://a/o","http://a/p":"x"|}]]}}
+row_23 : is_due Streaming (in_member 0 (member 1 (codes "@context") (object 12 (member 13 (codes "g") (object 17 (member 18 (codes "@id") (scalar 24 (Str (codes "http://a/g"))) (member 37 (codes "@container") (scalar 50 (Str (codes "@list"))) no_member))) (member 59 (codes "T") (object 63 (member 64 (codes "@id") (scalar 70 (Str (codes "http://a/T"))) (member 83 (codes "@context") (object 94 (member 95 (codes "g") (object 99 (member 100 (codes "@id") (scalar 106 (Str (codes "http://a/g"))) (member 119 (codes "@container") (array 132 (item (scalar 133 (Str (codes "@graph"))) (item (scalar 142 (Str (codes "@id"))) no_item))) no_member))) no_member)) no_member))) no_member))) (member 153 (codes "@id") (scalar 159 (Str (codes "http://a/s"))) (member 172 (codes "@type") (scalar 180 (Str (codes "T"))) no_member))) (152 ∷ 171 ∷ 183 ∷ []) 184 (codes "g") (in_member 188 no_member [] 189 (codes "@none") (in_array 197 no_item (in_array 198 no_item (in_object 199 (member 200 (codes "@id") (scalar 206 (Str (codes "http://a/o"))) (member 219 (codes "http://a/p") (scalar 232 (Str (codes "x"))) no_member)) (218 ∷ 235 ∷ [])))))) (codes "<http://a/s> <http://www.w3.org/1999/02/22-rdf-syntax-ns#type> <http://a/T> .\n" ∷ codes "<http://a/o> <http://a/p> \"x\" _:jlg199 .\n" ∷ []) ≡ true
+unfolding is_due
+row_23 = refl
+
+-- streaming: {"@context":{"g":{"@id":"http://a/g","@container":"@list"},"T":{"@id":"http://a/T","@context":{"g":{"@id":"http://a/g","@container":["@graph","@id"]}}}},"@id":"http://a/s","@type":"T","g":{"@none":[[{"@id":"http://a/o","http://a/p":"x"}|]]}}
+row_24 : is_due Streaming (in_member 0 (member 1 (codes "@context") (object 12 (member 13 (codes "g") (object 17 (member 18 (codes "@id") (scalar 24 (Str (codes "http://a/g"))) (member 37 (codes "@container") (scalar 50 (Str (codes "@list"))) no_member))) (member 59 (codes "T") (object 63 (member 64 (codes "@id") (scalar 70 (Str (codes "http://a/T"))) (member 83 (codes "@context") (object 94 (member 95 (codes "g") (object 99 (member 100 (codes "@id") (scalar 106 (Str (codes "http://a/g"))) (member 119 (codes "@container") (array 132 (item (scalar 133 (Str (codes "@graph"))) (item (scalar 142 (Str (codes "@id"))) no_item))) no_member))) no_member)) no_member))) no_member))) (member 153 (codes "@id") (scalar 159 (Str (codes "http://a/s"))) (member 172 (codes "@type") (scalar 180 (Str (codes "T"))) no_member))) (152 ∷ 171 ∷ 183 ∷ []) 184 (codes "g") (in_member 188 no_member [] 189 (codes "@none") (in_array 197 no_item (in_array 198 (item (object 199 (member 200 (codes "@id") (scalar 206 (Str (codes "http://a/o"))) (member 219 (codes "http://a/p") (scalar 232 (Str (codes "x"))) no_member))) no_item) unread)))) (codes "<http://a/s> <http://www.w3.org/1999/02/22-rdf-syntax-ns#type> <http://a/T> .\n" ∷ []) ≡ true
+unfolding is_due
+row_24 = refl

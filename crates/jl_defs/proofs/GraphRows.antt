@@ -150,3 +150,13 @@ row_24_any = refl
 row_24_streaming : is_refused (settings Streaming None []) (object 0 (member 1 (codes "@graph") (array 10 no_item) (member 13 (codes "http://a/q") (object 26 (member 27 (codes "@set") (scalar 34 Null) no_member)) (member 40 (codes "http://a/p") (object 53 (member 54 (codes "@list") (scalar 62 Null) no_member)) no_member)))) (fault code.LateGraph 13 ∷ fault code.LateGraph 40 ∷ []) ≡ true
 unfolding is_refused
 row_24_streaming = refl
+
+-- {"@context":{"g":{"@id":"http://a/g","@container":"@graph"}},"@id":"http://a/s","@reverse":{"g":["x"]}}
+row_25 : says_in_both None [] (object 0 (member 1 (codes "@context") (object 12 (member 13 (codes "g") (object 17 (member 18 (codes "@id") (scalar 24 (Str (codes "http://a/g"))) (member 37 (codes "@container") (scalar 50 (Str (codes "@graph"))) no_member))) no_member)) (member 61 (codes "@id") (scalar 67 (Str (codes "http://a/s"))) (member 80 (codes "@reverse") (object 91 (member 92 (codes "g") (array 96 (item (scalar 97 (Str (codes "x"))) no_item)) no_member)) no_member)))) (codes "_:jlg97 <http://a/g> <http://a/s> .\n" ∷ []) ≡ true
+unfolding says_in_both
+row_25 = refl
+
+-- {"@context":{"g":{"@id":"http://a/g","@container":"@list"},"T":{"@id":"http://a/T","@context":{"g":{"@id":"http://a/g","@container":["@graph","@id"]}}}},"@id":"http://a/s","@type":"T","g":{"@none":[[{"@id":"http://a/o","http://a/p":"x"}]]}}
+row_26 : says_in_both None [] (object 0 (member 1 (codes "@context") (object 12 (member 13 (codes "g") (object 17 (member 18 (codes "@id") (scalar 24 (Str (codes "http://a/g"))) (member 37 (codes "@container") (scalar 50 (Str (codes "@list"))) no_member))) (member 59 (codes "T") (object 63 (member 64 (codes "@id") (scalar 70 (Str (codes "http://a/T"))) (member 83 (codes "@context") (object 94 (member 95 (codes "g") (object 99 (member 100 (codes "@id") (scalar 106 (Str (codes "http://a/g"))) (member 119 (codes "@container") (array 132 (item (scalar 133 (Str (codes "@graph"))) (item (scalar 142 (Str (codes "@id"))) no_item))) no_member))) no_member)) no_member))) no_member))) (member 153 (codes "@id") (scalar 159 (Str (codes "http://a/s"))) (member 172 (codes "@type") (scalar 180 (Str (codes "T"))) (member 184 (codes "g") (object 188 (member 189 (codes "@none") (array 197 (item (array 198 (item (object 199 (member 200 (codes "@id") (scalar 206 (Str (codes "http://a/o"))) (member 219 (codes "http://a/p") (scalar 232 (Str (codes "x"))) no_member))) no_item)) no_item)) no_member)) no_member))))) (codes "<http://a/s> <http://www.w3.org/1999/02/22-rdf-syntax-ns#type> <http://a/T> .\n" ∷ codes "<http://a/s> <http://a/g> _:jlg198 .\n" ∷ codes "<http://a/o> <http://a/p> \"x\" _:jlg199 .\n" ∷ []) ≡ true
+unfolding says_in_both
+row_26 = refl

@@ -58,3 +58,8 @@ row_10 = refl
 row_11 : says_in_both None [] (object 0 (member 1 (codes "@context") (object 12 (member 13 (codes "l") (object 17 (member 18 (codes "@id") (scalar 24 (Str (codes "http://a/l"))) (member 37 (codes "@container") (scalar 50 (Str (codes "@list"))) no_member))) no_member)) (member 60 (codes "@id") (scalar 66 (Str (codes "http://a/s"))) (member 79 (codes "l") (array 83 (item (object 84 (member 85 (codes "@set") (array 92 (item (scalar 93 (Str (codes "x"))) (item (scalar 97 (Str (codes "y"))) no_item))) no_member)) (item (scalar 103 (Str (codes "z"))) no_item))) no_member)))) (codes "<http://a/s> <http://a/l> _:jll93 .\n" ∷ codes "_:jll103 <http://www.w3.org/1999/02/22-rdf-syntax-ns#first> \"z\" .\n" ∷ codes "_:jll103 <http://www.w3.org/1999/02/22-rdf-syntax-ns#rest> <http://www.w3.org/1999/02/22-rdf-syntax-ns#nil> .\n" ∷ codes "_:jll93 <http://www.w3.org/1999/02/22-rdf-syntax-ns#first> \"x\" .\n" ∷ codes "_:jll93 <http://www.w3.org/1999/02/22-rdf-syntax-ns#rest> _:jll97 .\n" ∷ codes "_:jll97 <http://www.w3.org/1999/02/22-rdf-syntax-ns#first> \"y\" .\n" ∷ codes "_:jll97 <http://www.w3.org/1999/02/22-rdf-syntax-ns#rest> _:jll103 .\n" ∷ []) ≡ true
 unfolding says_in_both
 row_11 = refl
+
+-- [{"@id":"http://a/s","http://a/p":[{"@list":["x","y"]}]}]
+row_12 : says_in_both None [] (array 0 (item (object 1 (member 2 (codes "@id") (scalar 8 (Str (codes "http://a/s"))) (member 21 (codes "http://a/p") (array 34 (item (object 35 (member 36 (codes "@list") (array 44 (item (scalar 45 (Str (codes "x"))) (item (scalar 49 (Str (codes "y"))) no_item))) no_member)) no_item)) no_member))) no_item)) (codes "<http://a/s> <http://a/p> _:jll45 .\n" ∷ codes "_:jll45 <http://www.w3.org/1999/02/22-rdf-syntax-ns#first> \"x\" .\n" ∷ codes "_:jll45 <http://www.w3.org/1999/02/22-rdf-syntax-ns#rest> _:jll49 .\n" ∷ codes "_:jll49 <http://www.w3.org/1999/02/22-rdf-syntax-ns#first> \"y\" .\n" ∷ codes "_:jll49 <http://www.w3.org/1999/02/22-rdf-syntax-ns#rest> <http://www.w3.org/1999/02/22-rdf-syntax-ns#nil> .\n" ∷ []) ≡ true
+unfolding says_in_both
+row_12 = refl

@@ -155,3 +155,23 @@ row_28 = refl
 row_29 : says_in_both None [] (object 0 (member 1 (codes "@id") (scalar 7 (Str (codes "http://a/s#a#b"))) (member 24 (codes "http://a/p") (scalar 37 (Str (codes "x"))) no_member))) (codes "<http://a/s#a#b> <http://a/p> \"x\" .\n" ∷ []) ≡ true
 unfolding says_in_both
 row_29 = refl
+
+-- {"@id":"http://a/s","http://a/p":"x","http://a/q":"y"}
+row_30 : says_in_both None [] (object 0 (member 1 (codes "@id") (scalar 7 (Str (codes "http://a/s"))) (member 20 (codes "http://a/p") (scalar 33 (Str (codes "x"))) (member 37 (codes "http://a/q") (scalar 50 (Str (codes "y"))) no_member)))) (codes "<http://a/s> <http://a/p> \"x\" .\n" ∷ codes "<http://a/s> <http://a/q> \"y\" .\n" ∷ []) ≡ true
+unfolding says_in_both
+row_30 = refl
+
+-- {"@id":"http://a/s","@type":["http://a/T",5]}
+row_31 : is_refused_in_both None [] (object 0 (member 1 (codes "@id") (scalar 7 (Str (codes "http://a/s"))) (member 20 (codes "@type") (array 28 (item (scalar 29 (Str (codes "http://a/T"))) (item (scalar 42 (Number (codes "5"))) no_item))) no_member))) (fault code.InvalidTypeValue 20 ∷ []) ≡ true
+unfolding is_refused_in_both
+row_31 = refl
+
+-- {"@type":{},"@index":5}
+row_32 : is_refused_in_both None [] (object 0 (member 1 (codes "@type") (object 9 no_member) (member 12 (codes "@index") (scalar 21 (Number (codes "5"))) no_member))) (fault code.InvalidTypeValue 1 ∷ fault code.InvalidIndexValue 12 ∷ []) ≡ true
+unfolding is_refused_in_both
+row_32 = refl
+
+-- {"@id":"http://a/s","http://a/p":{"@value":"x","@direction":"up"}}
+row_33 : is_refused_in_both None [] (object 0 (member 1 (codes "@id") (scalar 7 (Str (codes "http://a/s"))) (member 20 (codes "http://a/p") (object 33 (member 34 (codes "@value") (scalar 43 (Str (codes "x"))) (member 47 (codes "@direction") (scalar 60 (Str (codes "up"))) no_member))) no_member))) (fault code.InvalidBaseDirection 47 ∷ []) ≡ true
+unfolding is_refused_in_both
+row_33 = refl

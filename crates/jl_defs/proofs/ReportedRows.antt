@@ -87,3 +87,38 @@ row_15 = refl
 row_16 : reports Streaming (in_member 0 (member 1 (codes "@value") (scalar 10 (Number (codes "1"))) (member 12 (codes "@id") (scalar 18 (Str (codes "x"))) no_member)) (11 ∷ 21 ∷ []) 22 (codes "http://a/p") unread) [] ≡ true
 unfolding reports
 row_16 = refl
+
+-- streaming: {"@context":{"g":{"@id":"http://a/g","@container":"@graph"}},"@id":"http://a/s","@reverse":{"g":["x"|]}}
+row_17 : reports Streaming (in_member 0 (member 1 (codes "@context") (object 12 (member 13 (codes "g") (object 17 (member 18 (codes "@id") (scalar 24 (Str (codes "http://a/g"))) (member 37 (codes "@container") (scalar 50 (Str (codes "@graph"))) no_member))) no_member)) (member 61 (codes "@id") (scalar 67 (Str (codes "http://a/s"))) no_member)) (60 ∷ 79 ∷ []) 80 (codes "@reverse") (in_member 91 no_member [] 92 (codes "g") (in_array 96 (item (scalar 97 (Str (codes "x"))) no_item) unread))) [] ≡ true
+unfolding reports
+row_17 = refl
+
+-- streaming: {"@context":{"i":{"@id":"http://a/i","@container":"@list"},"T":{"@id":"http://a/T","@context":{"i":{"@id":"http://a/i","@container":"@id"}}}},"@id":"http://a/s","@type":"T","i":{"http://a/x":[["y"|]]}}
+row_18 : reports Streaming (in_member 0 (member 1 (codes "@context") (object 12 (member 13 (codes "i") (object 17 (member 18 (codes "@id") (scalar 24 (Str (codes "http://a/i"))) (member 37 (codes "@container") (scalar 50 (Str (codes "@list"))) no_member))) (member 59 (codes "T") (object 63 (member 64 (codes "@id") (scalar 70 (Str (codes "http://a/T"))) (member 83 (codes "@context") (object 94 (member 95 (codes "i") (object 99 (member 100 (codes "@id") (scalar 106 (Str (codes "http://a/i"))) (member 119 (codes "@container") (scalar 132 (Str (codes "@id"))) no_member))) no_member)) no_member))) no_member))) (member 142 (codes "@id") (scalar 148 (Str (codes "http://a/s"))) (member 161 (codes "@type") (scalar 169 (Str (codes "T"))) no_member))) (141 ∷ 160 ∷ 172 ∷ []) 173 (codes "i") (in_member 177 no_member [] 178 (codes "http://a/x") (in_array 191 no_item (in_array 192 (item (scalar 193 (Str (codes "y"))) no_item) unread)))) [] ≡ true
+unfolding reports
+row_18 = refl
+
+-- streaming: {"@context":{"x":"@index","n":{"@id":"@nest","@context":{"x":null}}},"@id":"http://a/s","n":[{"x":"a"},{"@index"|:"b"}]}
+row_19 : reports Streaming (in_member 0 (member 1 (codes "@context") (object 12 (member 13 (codes "x") (scalar 17 (Str (codes "@index"))) (member 26 (codes "n") (object 30 (member 31 (codes "@id") (scalar 37 (Str (codes "@nest"))) (member 45 (codes "@context") (object 56 (member 57 (codes "x") (scalar 61 Null) no_member)) no_member))) no_member))) (member 69 (codes "@id") (scalar 75 (Str (codes "http://a/s"))) no_member)) (68 ∷ 87 ∷ []) 88 (codes "n") (in_array 92 (item (object 93 (member 94 (codes "x") (scalar 98 (Str (codes "a"))) no_member)) no_item) (in_member 103 no_member [] 104 (codes "@index") unread))) [] ≡ true
+unfolding reports
+row_19 = refl
+
+-- streaming: {"@context":{"n":{"@id":"@nest","@context":{"x":"@index"}}},"@id":"http://a/s","n":[{"x":"a"},{"@index"|:"b"}]}
+row_20 : reports Streaming (in_member 0 (member 1 (codes "@context") (object 12 (member 13 (codes "n") (object 17 (member 18 (codes "@id") (scalar 24 (Str (codes "@nest"))) (member 32 (codes "@context") (object 43 (member 44 (codes "x") (scalar 48 (Str (codes "@index"))) no_member)) no_member))) no_member)) (member 60 (codes "@id") (scalar 66 (Str (codes "http://a/s"))) no_member)) (59 ∷ 78 ∷ []) 79 (codes "n") (in_array 83 (item (object 84 (member 85 (codes "x") (scalar 89 (Str (codes "a"))) no_member)) no_item) (in_member 94 no_member [] 95 (codes "@index") unread))) (fault code.CollidingKeywords 95 ∷ []) ≡ true
+unfolding reports
+row_20 = refl
+
+-- streaming: {"@id":"http://a/s","@nest":[["x"|]]}
+row_21 : reports Streaming (in_member 0 (member 1 (codes "@id") (scalar 7 (Str (codes "http://a/s"))) no_member) (19 ∷ []) 20 (codes "@nest") (in_array 28 no_item (in_array 29 (item (scalar 30 (Str (codes "x"))) no_item) unread))) [] ≡ true
+unfolding reports
+row_21 = refl
+
+-- streaming: {"@context":{"i":{"@reverse":"http://a/i","@container":"@index"}},"@id":"http://a/s","i":{"k":"x","l":[["y"|]]}}
+row_22 : reports Streaming (in_member 0 (member 1 (codes "@context") (object 12 (member 13 (codes "i") (object 17 (member 18 (codes "@reverse") (scalar 29 (Str (codes "http://a/i"))) (member 42 (codes "@container") (scalar 55 (Str (codes "@index"))) no_member))) no_member)) (member 66 (codes "@id") (scalar 72 (Str (codes "http://a/s"))) no_member)) (65 ∷ 84 ∷ []) 85 (codes "i") (in_member 89 (member 90 (codes "k") (scalar 94 (Str (codes "x"))) no_member) (97 ∷ []) 98 (codes "l") (in_array 102 no_item (in_array 103 (item (scalar 104 (Str (codes "y"))) no_item) unread)))) (fault code.InvalidReversePropertyValue 94 ∷ fault code.InvalidReversePropertyValue 104 ∷ []) ≡ true
+unfolding reports
+row_22 = refl
+
+-- streaming: {"@context":{"t":{"@id":"http://a/t","@container":"@language"}},"@id":"http://a/s","@reverse":{"t":{"de":"x","en":["y"|]}}}
+row_23 : reports Streaming (in_member 0 (member 1 (codes "@context") (object 12 (member 13 (codes "t") (object 17 (member 18 (codes "@id") (scalar 24 (Str (codes "http://a/t"))) (member 37 (codes "@container") (scalar 50 (Str (codes "@language"))) no_member))) no_member)) (member 64 (codes "@id") (scalar 70 (Str (codes "http://a/s"))) no_member)) (63 ∷ 82 ∷ []) 83 (codes "@reverse") (in_member 94 no_member [] 95 (codes "t") (in_member 99 (member 100 (codes "de") (scalar 105 (Str (codes "x"))) no_member) (108 ∷ []) 109 (codes "en") (in_array 114 (item (scalar 115 (Str (codes "y"))) no_item) unread)))) (fault code.InvalidReversePropertyValue 105 ∷ fault code.InvalidReversePropertyValue 115 ∷ []) ≡ true
+unfolding reports
+row_23 = refl

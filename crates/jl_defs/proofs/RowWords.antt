@@ -33,7 +33,7 @@ use Rattle.jl_defs.specs.Faults.{judged, value_faults, faults}
 use Rattle.jl_defs.specs.OpenTree.{Open}
 use Rattle.jl_defs.specs.Words.{ReadWords, selects}
 use Rattle.jl_defs.specs.Settled.{decided, settled, decided_by_key, settled_by_key}
-use Rattle.jl_defs.specs.Reported.{json_reported, seen_behind, value_reported, reported}
+use Rattle.jl_defs.specs.Reported.{json_reported, seen_behind, items_read, value_reported, reported}
 use Rattle.jl_defs.specs.Due.{value_due, due}
 use Rattle.jl_defs.specs.Bound.{token, held_bound, part_bound, bound}
 
@@ -83,7 +83,7 @@ is_refused_in_both base library t fs = is_refused (settings Any base library) t 
 
 -- what has been read of a document makes the quads of these lines due, as a set
 unfoldable pub is_due : Order → Open → List Text → Bool
-unfolding says decided settled decided_by_key settled_by_key json_reported seen_behind value_reported reported value_due due
+unfolding says decided settled decided_by_key settled_by_key json_reported seen_behind items_read value_reported reported value_due due
 is_due order o lines = same_lines (map line (due (settings order None []) o)) lines
 
 -- these faults are reported of what has been read of a document, as a set

@@ -1,5 +1,5 @@
 -- Rows of texts: resolution, labels, numbers, canonical JSON, the writer's text and the generated text.
-use Rattle.std.specs.Prelude.{◌≡◌, Bool, true, false, ◌&&◌, List, [], ◌∷◌, length, Some, None, Ok, Err, codes, bytes_eq, refl}
+use Rattle.std.specs.Prelude.{ℕ, zero, suc, ◌≡◌, Bool, true, false, ◌&&◌, List, [], ◌∷◌, length, Some, None, Ok, Err, codes, bytes_eq, refl}
 use Rattle.std.specs.Str.{chars}
 use Rattle.std.specs.Fmt.{digits}
 use Rattle.jl_model.specs.JsonTree.{scalar, array, object, no_item, item, no_member, member}
@@ -13,7 +13,7 @@ use Rattle.jl_defs.specs.Texts.{Text}
 use Rattle.jl_defs.specs.Numbers.{magnitude, double_number, integer_number}
 use Rattle.jl_defs.specs.Canon.{string_text, canon}
 use Rattle.jl_defs.specs.NodeMap.{node_label, cell_label, graph_label}
-use Rattle.jl_defs.specs.WriterText.{text_behind, node_behind, writer_text}
+use Rattle.jl_defs.specs.WriterText.{same_predicate, new_predicate, new_node, OpenNode, in_node, text_behind, node_behind, writer_text}
 use Rattle.jl_defs.specs.Generated.{further_items, pieces, generated_text}
 
 -- the examples of RFC 3986, section 5.4, against http://a/b/c/d;p?q
@@ -229,3 +229,27 @@ row_37 = refl
 row_38 : length (generated_text 1) ≡ 149
 unfolding generated_text pieces further_items digits
 row_38 = refl
+
+-- so many predicates `p` and one `q`, which was used last
+abbrev used : ℕ → List Text
+used n = codes "q" ∷ repeated n
+  where
+    repeated : ℕ → List Text
+    repeated zero = []
+    repeated (suc m) = codes "p" ∷ repeated m
+
+abbrev node_with : ℕ → OpenNode
+node_with n = record { graph = None; subject = Iri (codes "http://a/s"); used = used n }
+
+-- a node that uses 63 predicates takes one more, and one that uses 64 takes none; the last one goes on
+row_39 : in_node (node_with 62) (codes "r") ≡ new_predicate
+row_39 = refl
+
+row_40 : in_node (node_with 63) (codes "r") ≡ new_node
+row_40 = refl
+
+row_41 : in_node (node_with 63) (codes "q") ≡ same_predicate
+row_41 = refl
+
+row_42 : in_node (node_with 1) (codes "p") ≡ new_node
+row_42 = refl

@@ -70,3 +70,28 @@ row_12 = refl
 row_13 : is_refused_in_both None [] (object 0 (member 1 (codes "@id") (scalar 7 (Str (codes "http://a/s"))) (member 20 (codes "@included") (array 32 (item (object 33 (member 34 (codes "@list") (array 42 no_item) no_member)) (item (object 46 (member 47 (codes "@list") (array 55 no_item) (member 58 (codes "@index") (scalar 67 (Str (codes "i"))) no_member))) (item (object 72 (member 73 (codes "@list") (array 81 (item (object 82 (member 83 (codes "@id") (scalar 89 (Number (codes "5"))) no_member)) no_item)) (member 93 (codes "http://a/p") (scalar 106 (Str (codes "x"))) no_member))) no_item)))) no_member))) (fault code.InvalidIncludedValue 33 ∷ fault code.InvalidIncludedValue 46 ∷ []) ≡ true
 unfolding is_refused_in_both
 row_13 = refl
+
+-- {"@context":{"x":"@index","n":{"@id":"@nest","@context":{"x":null}}},"@id":"http://a/s","n":[{"x":"a"},{"@index":"b"}]}
+row_14 : says_in_both None [] (object 0 (member 1 (codes "@context") (object 12 (member 13 (codes "x") (scalar 17 (Str (codes "@index"))) (member 26 (codes "n") (object 30 (member 31 (codes "@id") (scalar 37 (Str (codes "@nest"))) (member 45 (codes "@context") (object 56 (member 57 (codes "x") (scalar 61 Null) no_member)) no_member))) no_member))) (member 69 (codes "@id") (scalar 75 (Str (codes "http://a/s"))) (member 88 (codes "n") (array 92 (item (object 93 (member 94 (codes "x") (scalar 98 (Str (codes "a"))) no_member)) (item (object 103 (member 104 (codes "@index") (scalar 113 (Str (codes "b"))) no_member)) no_item))) no_member)))) [] ≡ true
+unfolding says_in_both
+row_14 = refl
+
+-- {"@context":{"n":{"@id":"@nest","@context":{"x":"@index"}}},"@id":"http://a/s","n":[{"x":"a"},{"@index":"b"}]}
+row_15 : is_refused_in_both None [] (object 0 (member 1 (codes "@context") (object 12 (member 13 (codes "n") (object 17 (member 18 (codes "@id") (scalar 24 (Str (codes "@nest"))) (member 32 (codes "@context") (object 43 (member 44 (codes "x") (scalar 48 (Str (codes "@index"))) no_member)) no_member))) no_member)) (member 60 (codes "@id") (scalar 66 (Str (codes "http://a/s"))) (member 79 (codes "n") (array 83 (item (object 84 (member 85 (codes "x") (scalar 89 (Str (codes "a"))) no_member)) (item (object 94 (member 95 (codes "@index") (scalar 104 (Str (codes "b"))) no_member)) no_item))) no_member)))) (fault code.CollidingKeywords 95 ∷ []) ≡ true
+unfolding is_refused_in_both
+row_15 = refl
+
+-- {"@id":"http://a/s","@nest":[["x"],{}]}
+row_16 : is_refused_in_both None [] (object 0 (member 1 (codes "@id") (scalar 7 (Str (codes "http://a/s"))) (member 20 (codes "@nest") (array 28 (item (array 29 (item (scalar 30 (Str (codes "x"))) no_item)) (item (object 35 no_member) no_item))) no_member))) (fault code.InvalidNestValue 29 ∷ []) ≡ true
+unfolding is_refused_in_both
+row_16 = refl
+
+-- {"@id":"http://a/s","@reverse":[]}
+row_17 : is_refused_in_both None [] (object 0 (member 1 (codes "@id") (scalar 7 (Str (codes "http://a/s"))) (member 20 (codes "@reverse") (array 31 no_item) no_member))) (fault code.InvalidReverseValue 20 ∷ []) ≡ true
+unfolding is_refused_in_both
+row_17 = refl
+
+-- {"@context":{"r":{"@reverse":"http://a/r"}},"@id":"http://a/s","@reverse":{"r":"x"}}
+row_18 : is_refused_in_both None [] (object 0 (member 1 (codes "@context") (object 12 (member 13 (codes "r") (object 17 (member 18 (codes "@reverse") (scalar 29 (Str (codes "http://a/r"))) no_member)) no_member)) (member 44 (codes "@id") (scalar 50 (Str (codes "http://a/s"))) (member 63 (codes "@reverse") (object 74 (member 75 (codes "r") (scalar 79 (Str (codes "x"))) no_member)) no_member)))) (fault code.InvalidReversePropertyValue 79 ∷ []) ≡ true
+unfolding is_refused_in_both
+row_18 = refl

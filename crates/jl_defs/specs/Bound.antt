@@ -11,7 +11,7 @@ use Rattle.jl_model.specs.declared.graph_scopes.GraphScope.{GraphScope}
 use Rattle.jl_model.specs.declared.graph_scopes.GraphScope.TheVariants.{LeftOut, Main, Named}
 use Rattle.jl_defs.specs.Texts.{Text, is_among}
 use Rattle.jl_defs.specs.Context.{TermDef, Context, term, initial, size}
-use Rattle.jl_defs.specs.Settings.{Settings, Under, no_property, graph_property, reverse_property, Stand, elsewhere}
+use Rattle.jl_defs.specs.Settings.{Settings, Under, no_property, graph_property, reverse_property, Stand, elsewhere, drops}
 use Rattle.jl_defs.specs.Keys.{Key, its_context, graph, included, list, set, reverse, nest, value, property, key_of, is_id}
 use Rattle.jl_defs.specs.ObjectContexts.{Own, Inside, decide, is_context_name, own_context, type_base}
 use Rattle.jl_defs.specs.Kept.{own_member, Form, json_form, language_form, map_form, plain_form, form_of, nest_inside}
@@ -20,7 +20,7 @@ use Rattle.jl_defs.specs.LateKeys.{rest_of}
 use Rattle.jl_defs.specs.OpenTree.{Open, unread, in_scalar, in_array, in_object, in_key, in_member, whole, stand_in, read_members}
 use Rattle.jl_defs.specs.Settled.{own_candidates, kinds_awaited, decided, decided_by_key, settled, settled_by_key}
 use Rattle.jl_defs.specs.Reported.{decide_read}
-use Rattle.jl_defs.specs.Due.{Hang, Spot, free_spot, root_spot, inside_spot, NodeSpot, open_entry, node_of, property_spot, entry_spot, listed_spot, set_spot}
+use Rattle.jl_defs.specs.Due.{Hang, Spot, free_spot, root_spot, item_spot, NodeSpot, open_entry, node_of, property_spot, entry_spot, listed_spot, set_spot}
 use Rattle.jl_defs.specs.ValueObjects.{is_json}
 
 -- the bytes of the scalar or key that is being read, where so many bytes have been read in all
@@ -264,11 +264,11 @@ abbrev pub literal_bytes : ℕ → ℕ → Part → ℕ
 literal_bytes n at (literal_part c m) = 5 * (n - at)
 literal_bytes n at x = 0
 
--- the items of an array stand where it does
-abbrev pub item_part : Part → Part
-item_part (value_part p m) = value_part (inside_spot p) m
-item_part (nest_part i p n name m) = nest_part i p n name m
-item_part x = silent x
+-- the open item of an array
+abbrev pub item_part : Part → Open → Part
+item_part (value_part p m) next = value_part (item_spot p next) m
+item_part (nest_part i p n name m) next = nest_part i p n name m
+item_part x next = silent x
 
 -- the value of a property, by its form
 abbrev pub form_part : Form → Inside → Spot → GraphScope → Text → Option TermDef → Names → Part
@@ -286,7 +286,7 @@ key_part its_context i p n name next m = literal_part i.final m
 key_part value i p n name next m = elim (is_json i.input) [ true ↦ literal_part i.final m | false ↦ silent_part i.final m ]
 key_part graph i p n name next m = value_part (free_spot i.final graph_property elsewhere n.content) (record m { scope = n.content })
 key_part included i p n name next m = value_part (free_spot i.final no_property elsewhere n.scope) m
-key_part list i p n name next m = value_part (listed_spot p i n) m
+key_part list i p n name next m = elim (drops p.under) [ true ↦ silent_part i.final m | false ↦ value_part (listed_spot p i n) m ]
 key_part set i p n name next m = value_part (set_spot p i) m
 key_part nest i p n name next m = nest_part i p n name m
 key_part reverse i p n name next m = value_part (free_spot i.final reverse_property elsewhere n.scope) m
@@ -323,9 +323,36 @@ object_bound s p m n at ms ends t =
     (big s p.context p.under p.stand at ms (decided_with s p.context p.under p.stand at ms t) (decide_with s p.context p.under p.stand at ms t))
     (names_in s p m at ms t (decided_with s p.context p.under p.stand at ms t) (decide_with s p.context p.under p.stand at ms t))
 
--- any other open container
-abbrev pub other_bound : Part → ℕ → ℕ
-other_bound x its_keys = container its_keys 0 (size (part_context x)) (part_names x)
+-- the context and the names that hold inside an open map: under `@nest` those of the nest term; the key read last is in force
+abbrev pub nested_names : Result Inside Code → Names → Tail → Names
+nested_names (Ok j) m t = expanded_in j.final m t
+nested_names (Err e) m t = written_in m t
+
+abbrev pub entry_names : Names → Tail → Names
+entry_names m no_tail = m
+entry_names m (key_tail at) = m
+entry_names m (member_tail at name next) = record m { key = name }
+
+abbrev pub names_inside : Settings → Part → Tail → Names
+names_inside s (map_part d u hang scope name m) t = entry_names m t
+names_inside s (nest_part i p n name m) t = nested_names (nest_inside s i name) m t
+names_inside s x t = part_names x
+
+abbrev pub nested_context : Result Inside Code → Context → Context
+nested_context (Ok j) c = j.final
+nested_context (Err e) c = c
+
+abbrev pub context_inside : Settings → Part → Context
+context_inside s (nest_part i p n name m) = nested_context (nest_inside s i name) i.final
+context_inside s x = part_context x
+
+-- an open map that is no object
+abbrev pub map_bound : Settings → Part → ℕ → Tail → ℕ
+map_bound s x its_keys t = container its_keys 0 (size (context_inside s x)) (names_inside s x t)
+
+-- an open array
+abbrev pub array_bound : Part → ℕ
+array_bound x = container 0 0 (size (part_context x)) (part_names x)
 
 -- inside the waiting part a container counts 64 and its keys
 unfoldable pub held_bound : Open → ℕ
@@ -360,12 +387,12 @@ unfoldable pub part_bound : Settings → Part → ℕ → Open → ℕ
 part_bound s x n unread = 0
 part_bound s x n (in_scalar at first) = literal_bytes n at x
 part_bound s x n (whole t) = 0
-part_bound s x n (in_array at xs next) = literal_bytes n at x + other_bound x 0 + part_bound s (item_part x) n next
+part_bound s x n (in_array at xs next) = literal_bytes n at x + array_bound x + part_bound s (item_part x next) n next
 part_bound s (value_part p m) n (in_object at ms ends) = object_bound s p m n at ms ends no_tail + waiting_bytes (is_waiting s p at ms no_tail) n at
-part_bound s x n (in_object at ms ends) = literal_bytes n at x + other_bound x (keys ms)
+part_bound s x n (in_object at ms ends) = literal_bytes n at x + map_bound s x (keys ms) no_tail
 part_bound s (value_part p m) n (in_key at ms ends a) =
     object_bound s p m n at ms ends (key_tail a) + waiting_bytes (is_waiting s p at ms (key_tail a)) n at
-part_bound s x n (in_key at ms ends a) = literal_bytes n at x + other_bound x (keys ms)
+part_bound s x n (in_key at ms ends a) = literal_bytes n at x + map_bound s x (keys ms) (key_tail a)
 part_bound s (value_part p m) n (in_member at ms ends a name next) =
     object_bound s p m n at ms ends (member_tail a name next)
     + elim (is_waiting s p at ms (member_tail a name next)) [
@@ -373,7 +400,7 @@ part_bound s (value_part p m) n (in_member at ms ends a name next) =
       | false ↦ part_bound s (open_part s p m at ms a name next) n next
     ]
 part_bound s x n (in_member at ms ends a name next) =
-    literal_bytes n at x + other_bound x (keys ms + (8 + length name)) + part_bound s (map_value_part s x name next) n next
+    literal_bytes n at x + map_bound s x (keys ms + (8 + length name)) (member_tail a name next) + part_bound s (map_value_part s x name next) n next
 
 -- the bound, where so many bytes have been read; the document counts as a container with the initial context
 unfoldable pub bound : Settings → ℕ → Open → ℕ
@@ -385,7 +412,7 @@ unfoldable pub part_waiting : Settings → Part → ℕ → Open → ℕ
 part_waiting s x n unread = 0
 part_waiting s x n (in_scalar at first) = 0
 part_waiting s x n (whole t) = 0
-part_waiting s x n (in_array at xs next) = part_waiting s (item_part x) n next
+part_waiting s x n (in_array at xs next) = part_waiting s (item_part x next) n next
 part_waiting s (value_part p m) n (in_object at ms ends) = waiting_bytes (is_waiting s p at ms no_tail) n at
 part_waiting s x n (in_object at ms ends) = 0
 part_waiting s (value_part p m) n (in_key at ms ends a) = waiting_bytes (is_waiting s p at ms (key_tail a)) n at

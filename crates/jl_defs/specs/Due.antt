@@ -10,7 +10,7 @@ use Rattle.jl_model.specs.declared.graph_scopes.GraphScope.{GraphScope}
 use Rattle.jl_model.specs.declared.graph_scopes.GraphScope.TheVariants.{Main}
 use Rattle.jl_defs.specs.Texts.{Text}
 use Rattle.jl_defs.specs.Context.{TermDef, Context, term, initial}
-use Rattle.jl_defs.specs.Settings.{Settings, Under, no_property, graph_property, reverse_property, property_of, Stand, root, graph_entry, elsewhere, inside_of, drops, lists}
+use Rattle.jl_defs.specs.Settings.{Settings, Under, no_property, graph_property, reverse_property, property_of, Stand, root, graph_entry, elsewhere, inside_of, drops, lists, term_under}
 use Rattle.jl_defs.specs.Keys.{Key, graph, included, list, set, reverse, nest, dropped, other, its_context, property, key_of, is_value, is_list, is_set, is_graph}
 use Rattle.jl_defs.specs.ObjectContexts.{Inside, decide}
 use Rattle.jl_defs.specs.Items.{Naming, by_graph, list_at, Items, NodeEntries, one, given, all_wrapped}
@@ -116,6 +116,20 @@ named_by a n = n
 -- the implicit graph round an object
 abbrev pub implicit : Addition → ℕ → GraphScope
 implicit a at = graph_of (term_of_node at (named_by a by_graph))
+
+-- the graph of a list that is an array in a map's entry
+abbrev pub list_scope : Spot → ℕ → Stand → GraphScope
+list_scope p at graph_entry = implicit p.adds at
+list_scope p at stand = p.scope
+
+-- the spot of an array's open item; an array inside an array under a container with `@list` is a list
+abbrev pub item_spot : Spot → Open → Spot
+item_spot p (in_array at xs next) =
+    elim (lists (term_under p.context p.under)) [
+      | true ↦ record (free_spot p.context p.under (inside_of p.stand) (list_scope p at p.stand)) { listing = in_list }
+      | false ↦ inside_spot p
+    ]
+item_spot p o = inside_spot p
 
 -- a pure graph says its content where it stands, and what is wrapped stands in a graph of its own
 abbrev pub node_by : Spot → ℕ → Naming → Stand → Bool → NodeSpot
@@ -264,7 +278,7 @@ unfoldable mutual
   value_due s p (in_scalar at first) = []
   value_due s p (whole t) = items_say p (given (expand s p.context p.under p.stand t))
   value_due s p (in_array at xs next) =
-      unless_listed p.listing (λ _. items_say p (expand_all s p.context p.under (inside_of p.stand) xs)) ++ value_due s (inside_spot p) next
+      unless_listed p.listing (λ _. items_say p (expand_all s p.context p.under (inside_of p.stand) xs)) ++ value_due s (item_spot p next) next
   value_due s p (in_object at ms ends) = object_due s p at ms
   value_due s p (in_key at ms ends a) = object_due s p at ms
   value_due s p (in_member at ms ends a name next) =

@@ -1,5 +1,5 @@
 -- The faults that a document is known to have before its end: however it goes on, they are among its faults.
-use Rattle.std.specs.Prelude.{ℕ, Bool, true, false, not, ◌&&◌, List, [], ◌∷◌, ◌++◌, Option, Some, None, Result, Ok, Err}
+use Rattle.std.specs.Prelude.{ℕ, Bool, true, false, not, ◌&&◌, ◌||◌, List, [], ◌∷◌, ◌++◌, Option, Some, None, Result, Ok, Err}
 use Rattle.jl_model.specs.JsonTree.{Trees, Members, no_member, member}
 use Rattle.jl_model.specs.declared.codes.Code.{Code}
 use Rattle.jl_model.specs.declared.codes.Code.TheVariants as code
@@ -10,18 +10,18 @@ use Rattle.jl_model.specs.declared.map_kinds.MapKind.{MapKind}
 use Rattle.jl_defs.specs.Texts.{Text}
 use Rattle.jl_defs.specs.Trees.{place_of}
 use Rattle.jl_defs.specs.Context.{TermDef, Context, term, initial}
-use Rattle.jl_defs.specs.Settings.{Settings, Under, no_property, graph_property, reverse_property, property_of, Stand, root, elsewhere, inside_of, drops, lists}
+use Rattle.jl_defs.specs.Settings.{Settings, Under, no_property, graph_property, reverse_property, property_of, Stand, root, elsewhere, inside_of, drops, lists, term_under}
 use Rattle.jl_defs.specs.Keys.{Key, id, kind, value, language, direction, index, graph, included, list, set, reverse, nest, property, key_of, is_kind}
 use Rattle.jl_defs.specs.ObjectContexts.{fault, Inside, decide}
 use Rattle.jl_defs.specs.ValueObjects.{all_with, is_json}
 use Rattle.jl_defs.specs.Canon.{json_faults, items_json_faults, members_json_faults}
-use Rattle.jl_defs.specs.Items.{Items}
-use Rattle.jl_defs.specs.Kept.{Role, own_member, reversed_member, refusal, all_nested_entries, Form, json_form, language_form, map_form, plain_form, form_of, nest_inside}
-use Rattle.jl_defs.specs.Maps.{is_none_key, entry_stand, entry_context, map_kind_of}
-use Rattle.jl_defs.specs.Expansion.{expand_all}
+use Rattle.jl_defs.specs.Items.{Items, no_more, both}
+use Rattle.jl_defs.specs.Kept.{Role, own_member, nested_member, reversed_member, refusal, all_nested_entries, Form, json_form, language_form, map_form, plain_form, form_of, nest_inside}
+use Rattle.jl_defs.specs.Maps.{is_none_key, entry_stand, entry_context, map_kind_of, language_key, language_items}
+use Rattle.jl_defs.specs.Expansion.{is_plain_graph, in_entry, expand_all, map_entries, language_entries}
 use Rattle.jl_defs.specs.LateKeys.{if_so, late_contexts, late_keys, late_graphs, rest_of}
 use Rattle.jl_defs.specs.MemberFaults.{Seen, nothing_seen, key_faults, turned_faults, map_item_faults, checked_kind, language_items_faults, language_map_faults}
-use Rattle.jl_defs.specs.Faults.{value_faults, items_faults, members_faults, entries_faults, all_nested_faults, all_judged, decided_faults, unless_refused, turns, Place, place, nested_place, see, see_nest}
+use Rattle.jl_defs.specs.Faults.{value_faults, items_faults, members_faults, entries_faults, all_nested_faults, all_judged, decided_faults, unless_refused, turns, if_turned, Place, place, nested_place, see, see_nest, see_nested_in}
 use Rattle.jl_defs.specs.OpenTree.{First, quote, brace, bracket, Open, unread, in_scalar, in_array, in_object, in_key, in_member, whole, first_byte, stand_in, read_members}
 use Rattle.jl_defs.specs.Settled.{decided, decided_by_key}
 
@@ -38,9 +38,14 @@ judged_items as_turned xs own = turned_faults xs
 judged_items (as_entries m) xs own = map_item_faults m xs
 judged_items as_included xs own = own
 
--- a turned property is judged item by item, unless its items become one list
+-- a turned property is judged item by item, unless its items become one list or are wrapped in graphs
 abbrev pub judging_of : Role → Option TermDef → Judging
-judging_of role t = elim (turns role t && not (lists t)) [ true ↦ as_turned | false ↦ as_they_are ]
+judging_of role t = elim (turns role t && not (lists t || is_plain_graph t)) [ true ↦ as_turned | false ↦ as_they_are ]
+
+-- an array inside an array under a container with `@list` is a list, whose items aren't judged on their own
+abbrev pub judging_inside : Bool → Judging → Judging
+judging_inside true j = as_they_are
+judging_inside false j = j
 
 -- what the first byte of a value alone gives
 abbrev pub unless_quote : Code → ℕ → First → List Fault
@@ -194,10 +199,53 @@ form_reported map_form None next mapped plain = []
 form_reported map_form (Some t) next mapped plain = mapped t
 form_reported plain_form t next mapped plain = plain
 
+abbrev pub unless_list : Bool → (Unit {0} → Items) → Items
+unless_list true xs = no_more
+unless_list false xs = xs tt
+
+-- the items of an open array: its closed ones, and those of an open array inside it, unless that is a list
+unfoldable pub items_read : Settings → Context → Under → Stand → Open → Items
+items_read s c under stand unread = no_more
+items_read s c under stand (in_scalar at first) = no_more
+items_read s c under stand (whole t) = no_more
+items_read s c under stand (in_array at xs next) =
+    both (expand_all s c under (inside_of stand) xs) (unless_list (lists (term_under c under)) (λ _. items_read s c under (inside_of stand) next))
+items_read s c under stand (in_object at ms ends) = no_more
+items_read s c under stand (in_key at ms ends a) = no_more
+items_read s c under stand (in_member at ms ends a n next) = no_more
+
+-- the items of a container's open map: those of its closed entries, and those of an open array in its open entry
+abbrev pub map_items_read : Settings → Context → TermDef → Text → Open → Items
+map_items_read s d t name (in_object at ms ends) = map_entries s d t name ms
+map_items_read s d t name (in_key at ms ends a) = map_entries s d t name ms
+map_items_read s d t name (in_member at ms ends a n next) =
+    both (map_entries s d t name ms) (in_entry (entry_context s d t n) (λ c. Some (items_read s c (property_of name) (entry_stand t) next)))
+map_items_read s d t name o = no_more
+
+-- the same of a language map
+abbrev pub language_entry_read : Option Text → Open → Items
+language_entry_read tag (in_array at xs next) = language_items tag xs
+language_entry_read tag o = no_more
+
+abbrev pub language_items_read : Context → Open → Items
+language_items_read d (in_object at ms ends) = language_entries d ms
+language_items_read d (in_key at ms ends a) = language_entries d ms
+language_items_read d (in_member at ms ends a n next) = both (language_entries d ms) (language_entry_read (language_key d n) next)
+language_items_read d o = no_more
+
+-- where a property is turned, the items of its open map are judged for that too
+abbrev pub map_turned : Settings → Role → Context → TermDef → Text → Open → List Fault
+map_turned s role d t name next = if_turned (turns role (Some t)) (λ _. turned_faults (map_items_read s d t name next))
+
+abbrev pub language_turned : Form → Inside → Role → Text → Open → List Fault
+language_turned language_form i role n next = if_turned (turns role (term i.final n)) (λ _. turned_faults (language_items_read i.final next))
+language_turned form i role n next = []
+
 abbrev pub property_reported : Inside → Role → Text → Open → Reading → (TermDef → List Fault) → List Fault
 property_reported i role name next reading mapped =
     form_reported (form_of (term i.final name) (stand_in next)) (term i.final name) next mapped
     (reading i.final (property_of name) elsewhere (judging_of role (term i.final name)))
+    ++ language_turned (form_of (term i.final name) (stand_in next)) i role name next
 
 -- what the inside of an open member's value gives
 abbrev pub open_by : Key → Inside → Place → Seen → Text → Open → Reading → (TermDef → List Fault) → (Seen → List Fault) → (Unit {0} → List Fault) → List Fault
@@ -219,9 +267,15 @@ member_reported i p seen a n next reading mapped nested reversed =
     ++ (first_known (key_of i.final n) (is_json i.input) a (begun_at next) (first_byte next)
     ++ open_by (key_of i.final n) i p seen n next reading mapped nested reversed))
 
--- behind closed maps of an array under `@nest`
-abbrev pub see_maps : Settings → Inside → Place → Seen → Trees → Seen
-see_maps s i p seen xs = record seen { entries = seen.entries ++ all_nested_entries s i p.under xs }
+-- behind closed maps of an array under `@nest`, in the nest term's context
+abbrev pub see_maps : Settings → Inside → Text → Place → Seen → Trees → Seen
+see_maps s i name p seen xs =
+    see_nested_in (nest_inside s i name) (λ j. record seen { entries = seen.entries ++ all_nested_entries s j p.under xs }) seen
+
+-- an array inside an array under `@nest` is no map, and is at fault as a whole
+abbrev pub unless_array : Open → (Unit {0} → List Fault) → List Fault
+unless_array (in_array at xs next) fs = []
+unless_array o fs = fs tt
 
 unfoldable mutual
   -- what an open value gives
@@ -232,7 +286,7 @@ unfoldable mutual
   value_reported s c under stand j (in_array at xs next) =
       items_faults s c under (inside_of stand) xs
       ++ (judged_items j (expand_all s c under (inside_of stand) xs) (all_judged s c xs)
-      ++ value_reported s c under (inside_of stand) j next)
+      ++ value_reported s c under (inside_of stand) (judging_inside (lists (term_under c under)) j) next)
   value_reported s c under stand j (in_object at ms ends) = object_reported s c under stand at ms
   value_reported s c under stand j (in_key at ms ends a) = object_reported s c under stand at ms
   value_reported s c under stand j (in_member at ms ends a n next) =
@@ -242,7 +296,7 @@ unfoldable mutual
       ++ (late_read s c under stand at i (read_members ms a n next)
       ++ member_reported i (own_place i under stand ms) (seen_behind s i (own_place i under stand ms) nothing_seen ms) a n next
       (λ d u w k. value_reported s d u w k next)
-      (λ t. map_reported s i.final t n next)
+      (λ t. map_reported s i.final t n next ++ map_turned s own_member i.final t n next)
       (λ seen. nested_reported s i n (own_place i under stand ms) seen next)
       (λ _. reversed_reported s i.final next)))
       ++ late_contexts s.order (read_members ms a n next))
@@ -252,7 +306,8 @@ unfoldable mutual
   nested_reported s i name p seen unread = []
   nested_reported s i name p seen (in_scalar at first) = []
   nested_reported s i name p seen (whole t) = []
-  nested_reported s i name p seen (in_array at xs next) = all_nested_faults s i name p seen xs ++ nested_reported s i name p (see_maps s i p seen xs) next
+  nested_reported s i name p seen (in_array at xs next) =
+      all_nested_faults s i name p seen xs ++ unless_array next (λ _. nested_reported s i name p (see_maps s i name p seen xs) next)
   nested_reported s i name p seen (in_object at ms ends) = nested_in (nest_inside s i name) (λ j. members_faults s j (nested_place p) seen ms)
   nested_reported s i name p seen (in_key at ms ends a) = nested_in (nest_inside s i name) (λ j. members_faults s j (nested_place p) seen ms)
   nested_reported s i name p seen (in_member at ms ends a n next) =
@@ -260,7 +315,7 @@ unfoldable mutual
       members_faults s j (nested_place p) seen ms
       ++ member_reported j (nested_place p) (seen_behind s j (nested_place p) seen ms) a n next
       (λ d u w k. value_reported s d u w k next)
-      (λ t. map_reported s j.final t n next)
+      (λ t. map_reported s j.final t n next ++ map_turned s nested_member j.final t n next)
       (λ behind. nested_reported s j n (nested_place p) behind next)
       (λ _. reversed_reported s j.final next))
 
@@ -279,7 +334,7 @@ unfoldable mutual
       ++ (late_read s c reverse_property elsewhere at i (read_members ms a n next)
       ++ member_reported i reverse_place (seen_behind s i reverse_place nothing_seen ms) a n next
       (λ d u w k. value_reported s d u w k next)
-      (λ t. map_reported s i.final t n next)
+      (λ t. map_reported s i.final t n next ++ map_turned s reversed_member i.final t n next)
       (λ seen. [])
       (λ _. [])))
       ++ late_contexts s.order (read_members ms a n next))
