@@ -1,0 +1,20 @@
+pub mod RowWords
+pub mod SaysRows
+mod Counting
+mod Equality
+mod Bools
+mod Begun
+mod Decided
+mod LateStays
+mod LiteralStays
+mod MemberStays
+mod FaultsStay
+mod PlainStage
+mod ItemsSay
+mod Frames
+mod NameOrder
+mod Reorder
+mod MembersOnce
+mod StreamingDecides
+mod MembersMove
+mod WrongWalks

@@ -1,0 +1,43 @@
+-- The laws, as statements.
+use Rattle.std.specs.Prelude.{ℕ, ◌≡◌, List}
+use Rattle.jl_model.specs.JsonTree.{Tree, object, Members}
+use Rattle.jl_model.specs.Parts.{Parts}
+use Rattle.jl_model.specs.declared.faults.Fault.{Fault}
+use Rattle.jl_model.specs.declared.orders.Order.TheVariants.{Streaming}
+use Rattle.jl_defs.specs.Settings.{Settings}
+use Rattle.jl_defs.specs.Sets.{IsWithin, SameSet}
+use Rattle.jl_defs.specs.Dataset.{dataset}
+use Rattle.jl_defs.specs.Faults.{faults}
+use Rattle.jl_defs.specs.OpenTree.{Open, Extends}
+use Rattle.jl_defs.specs.Reported.{reported}
+use Rattle.jl_laws.specs.Spots.{Spot}
+use Rattle.jl_laws.specs.Says.{says, root_spot}
+use Rattle.jl_laws.specs.Stage.{IsWithinStage, HasPlainKeys}
+use Rattle.jl_laws.specs.Reordering.{Reordered, HasNamesOnce, IsFaultless, IsFree}
+
+-- in streaming order a fault that is reported for what has been read is a fault of every tree that goes on from it
+abbrev pub FaultsStayBy : (Settings → Open → List Fault) → Type 0
+FaultsStayBy reports = (s : Settings) (o : Open) (t : Tree) → s.order ≡ Streaming → IsWithinStage s t → Extends o t → IsWithin (reports s o) (faults s t)
+
+abbrev pub FaultsStay : Type 0
+FaultsStay = FaultsStayBy reported
+
+-- what a walk over a document says is its dataset
+abbrev pub SaysDatasetBy : (Settings → Spot → Tree → List Parts) → Type 0
+SaysDatasetBy walk = (s : Settings) (t : Tree) → SameSet (walk s (root_spot s) t) (dataset s t)
+
+abbrev pub SaysDataset : Type 0
+SaysDataset = SaysDatasetBy says
+
+-- the order of an object's members doesn't change what it says, where neither order has faults
+abbrev pub MembersMoveBy : (Settings → Spot → Tree → List Parts) → Type 0
+MembersMoveBy walk =
+    (s : Settings) (p : Spot) (at : ℕ) (ms ns : Members) → Reordered ms ns → HasNamesOnce ns → IsFree s p at ns →
+    IsFaultless s p (object at ms) → IsFaultless s p (object at ns) → SameSet (walk s p (object at ms)) (walk s p (object at ns))
+
+abbrev pub MembersMove : Type 0
+MembersMove = MembersMoveBy says
+
+-- a document without contexts, and without nested, reversed and included members, is within the stage
+abbrev pub PlainIsWithin : Type 0
+PlainIsWithin = (s : Settings) (t : Tree) → HasPlainKeys t → IsWithinStage s t
