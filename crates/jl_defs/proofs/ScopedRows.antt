@@ -133,3 +133,14 @@ row_22 = refl
 row_23 : says_in_both None [] (object 0 (member 1 (codes "@context") (object 12 (member 13 (codes "@vocab") (scalar 22 (Str (codes "http://v/"))) (member 34 (codes "T") (object 38 (member 39 (codes "@id") (scalar 45 (Str (codes "http://a/T"))) (member 58 (codes "@context") (object 69 (member 70 (codes "val") (scalar 76 (Str (codes "@value"))) (member 85 (codes "i") (object 89 (member 90 (codes "@id") (scalar 96 (Str (codes "http://a/i"))) (member 109 (codes "@container") (scalar 122 (Str (codes "@index"))) no_member))) no_member))) no_member))) no_member))) (member 135 (codes "@id") (scalar 141 (Str (codes "http://a/s"))) (member 154 (codes "@type") (scalar 162 (Str (codes "T"))) (member 166 (codes "i") (object 170 (member 171 (codes "k") (object 175 (member 176 (codes "@context") (object 187 (member 188 (codes "val") (scalar 194 (Str (codes "http://a/v"))) no_member)) (member 208 (codes "val") (scalar 214 (Str (codes "y"))) no_member))) no_member)) no_member))))) (codes "<http://a/s> <http://a/i> _:jlb175 .\n" ∷ codes "<http://a/s> <http://www.w3.org/1999/02/22-rdf-syntax-ns#type> <http://a/T> .\n" ∷ codes "_:jlb175 <http://a/v> \"y\" .\n" ∷ []) ≡ true
 unfolding says_in_both
 row_23 = refl
+
+-- {"@context":{"T":{"@id":"http://a/T","@context":{"i":"@id","q":"http://t/q"}},"p":{"@id":"http://a/p","@context":{"i":"http://x/i"}},"q":"http://a/q"},"@id":"http://a/s","@type":"T","p":{"i":{"@id":"http://a/o"},"q":"x"}}
+-- A lone first key that means `@id` outside counts as single, though the object's own contexts give it another meaning: so
+-- the object doesn't go back to the context before, where with all its members known it would.
+row_24 : says (settings Streaming None []) (object 0 (member 1 (codes "@context") (object 12 (member 13 (codes "T") (object 17 (member 18 (codes "@id") (scalar 24 (Str (codes "http://a/T"))) (member 37 (codes "@context") (object 48 (member 49 (codes "i") (scalar 53 (Str (codes "@id"))) (member 59 (codes "q") (scalar 63 (Str (codes "http://t/q"))) no_member))) no_member))) (member 78 (codes "p") (object 82 (member 83 (codes "@id") (scalar 89 (Str (codes "http://a/p"))) (member 102 (codes "@context") (object 113 (member 114 (codes "i") (scalar 118 (Str (codes "http://x/i"))) no_member)) no_member))) (member 133 (codes "q") (scalar 137 (Str (codes "http://a/q"))) no_member)))) (member 151 (codes "@id") (scalar 157 (Str (codes "http://a/s"))) (member 170 (codes "@type") (scalar 178 (Str (codes "T"))) (member 182 (codes "p") (object 186 (member 187 (codes "i") (object 191 (member 192 (codes "@id") (scalar 198 (Str (codes "http://a/o"))) no_member)) (member 212 (codes "q") (scalar 216 (Str (codes "x"))) no_member))) no_member))))) (codes "<http://a/s> <http://www.w3.org/1999/02/22-rdf-syntax-ns#type> <http://a/T> .\n" ∷ codes "<http://a/s> <http://a/p> _:jlb186 .\n" ∷ codes "_:jlb186 <http://x/i> <http://a/o> .\n" ∷ codes "_:jlb186 <http://t/q> \"x\" .\n" ∷ []) ≡ true
+unfolding says
+row_24 = refl
+
+row_25 : says (settings Any None []) (object 0 (member 1 (codes "@context") (object 12 (member 13 (codes "T") (object 17 (member 18 (codes "@id") (scalar 24 (Str (codes "http://a/T"))) (member 37 (codes "@context") (object 48 (member 49 (codes "i") (scalar 53 (Str (codes "@id"))) (member 59 (codes "q") (scalar 63 (Str (codes "http://t/q"))) no_member))) no_member))) (member 78 (codes "p") (object 82 (member 83 (codes "@id") (scalar 89 (Str (codes "http://a/p"))) (member 102 (codes "@context") (object 113 (member 114 (codes "i") (scalar 118 (Str (codes "http://x/i"))) no_member)) no_member))) (member 133 (codes "q") (scalar 137 (Str (codes "http://a/q"))) no_member)))) (member 151 (codes "@id") (scalar 157 (Str (codes "http://a/s"))) (member 170 (codes "@type") (scalar 178 (Str (codes "T"))) (member 182 (codes "p") (object 186 (member 187 (codes "i") (object 191 (member 192 (codes "@id") (scalar 198 (Str (codes "http://a/o"))) no_member)) (member 212 (codes "q") (scalar 216 (Str (codes "x"))) no_member))) no_member))))) (codes "<http://a/s> <http://www.w3.org/1999/02/22-rdf-syntax-ns#type> <http://a/T> .\n" ∷ codes "<http://a/s> <http://a/p> _:jlb186 .\n" ∷ codes "_:jlb186 <http://x/i> <http://a/o> .\n" ∷ codes "_:jlb186 <http://a/q> \"x\" .\n" ∷ []) ≡ true
+unfolding says
+row_25 = refl

@@ -1,3 +1,5 @@
+mod LineRows
+pub mod LinePlaces
 pub mod Subtags
 pub mod LastByte
 pub mod JsonLists

@@ -6,6 +6,9 @@ pub mod Blanks
 pub mod Tags
 pub mod Parts
 pub mod Lines
+pub mod LineTokens
+pub mod LineGrammar
+pub mod LineFaults
 pub mod Flat
 pub mod JsonTree
 pub mod Resolve
