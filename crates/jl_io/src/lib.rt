@@ -4,11 +4,15 @@
 #![tactic(auto)]
 
 mod memory;
+mod pairs;
 mod ports;
 mod shelves;
 mod streams;
+mod strict;
 
 pub use memory::MemPort;
+pub use pairs::Pair;
 pub use ports::{ByteOut, Failed, Port};
 pub use shelves::{FetchStop, NoShelf, Shelf};
 pub use streams::StdPort;
+pub use strict::StrictPort;

@@ -98,6 +98,13 @@ impl MemPort {
             None
         }
     }
+
+    /// How many bytes were taken.
+    pub(crate) fn place(&self) -> u64
+        ensures { result ≡ length self.now.taken }
+    {
+        self.place as u64
+    }
 }
 
 impl ByteOut for MemPort {
