@@ -1,7 +1,9 @@
 -- What is known of a value by its first byte.
-use Rattle.std.proofs.Common.{ℕ, sym, subst, Option, Some, None}
+use Rattle.std.proofs.Common.{◌≡◌, ℕ, sym, subst, Option, Some, None, ap}
 use Rattle.jl_model.specs.JsonTree.{Tree, scalar, array, object, no_item, no_member}
 use Rattle.jl_model.specs.declared.scalars.Scalar.TheVariants.{Null, Bool as boolean, Number, Str}
+use Rattle.jl_defs.specs.Trees.{place_of}
+use Rattle.jl_defs.specs.Reported.{begun_at}
 use Rattle.jl_defs.specs.OpenTree.{First, quote, brace, bracket, sign, Open, unread, in_scalar, in_array, in_object, in_key, in_member, whole, first_byte, stand_in, IsScalarAt, Extends}
 
 -- the value begins with this byte, if it is known
@@ -92,3 +94,38 @@ stand-alike (in_object at ms ends) t r (rest, e) = subst (Alike (object 0 no_mem
 stand-alike (in_key at ms ends a) t r (rest, e, n) = subst (Alike (object 0 no_member)) (sym e) tt
 stand-alike (in_member at ms ends a n next) t r (v, rest, e, x) = subst (Alike (object 0 no_member)) (sym e) tt
 stand-alike (whole t) u r e = subst (Alike (stand_in (whole t))) e (whole-alike t)
+
+-- the place of a value that has begun
+abbrev pub IsPlaced : Option First → ℕ → Tree → Type 0
+IsPlaced None at t = Unit {0}
+IsPlaced (Some first) at t = at ≡ place_of t
+
+scalar-place : (at : ℕ) (first : First) (t : Tree) → IsScalarAt at first t → at ≡ place_of t
+scalar-place at quote (scalar at' (Str text)) e = e
+scalar-place at quote (scalar at' Null) e = absurd e
+scalar-place at quote (scalar at' (boolean b)) e = absurd e
+scalar-place at quote (scalar at' (Number n)) e = absurd e
+scalar-place at quote (array at' xs) e = absurd e
+scalar-place at quote (object at' ms) e = absurd e
+scalar-place at sign (scalar at' (Str text)) e = absurd e
+scalar-place at sign (scalar at' Null) e = e
+scalar-place at sign (scalar at' (boolean b)) e = e
+scalar-place at sign (scalar at' (Number n)) e = e
+scalar-place at sign (array at' xs) e = absurd e
+scalar-place at sign (object at' ms) e = absurd e
+scalar-place at brace t e = absurd e
+scalar-place at bracket t e = absurd e
+
+whole-placed : (first : Option First) (t u : Tree) → t ≡ u → IsPlaced first (place_of t) u
+whole-placed None t u e = tt
+whole-placed (Some first) t u e = ap place_of e
+
+pub begun-placed : (o : Open) (t : Tree) → Extends o t → IsPlaced (first_byte o) (begun_at o) t
+unfolding Extends
+begun-placed unread t x = tt
+begun-placed (in_scalar at first) t x = scalar-place at first t x
+begun-placed (in_array at xs next) t (rest, e, n) = ap place_of (sym e)
+begun-placed (in_object at ms ends) t (rest, e) = ap place_of (sym e)
+begun-placed (in_key at ms ends a) t (rest, e, n) = ap place_of (sym e)
+begun-placed (in_member at ms ends a n next) t (v, rest, e, x) = ap place_of (sym e)
+begun-placed (whole t) u e = whole-placed (first_byte (whole t)) t u e

@@ -18,10 +18,6 @@ it-one : {A : Type 0} (d : Dec A) → A → to_nat d ≡ 1
 it-one (yes h) a = refl
 it-one (no h) a = absurd (h a)
 
-one-it : {A : Type 0} (d : Dec A) → 0 < to_nat d → A
-one-it (yes h) l = h
-one-it (no h) l = absurd (omega (arith, l))
-
 has-tally : {A : Type 0} (d : Discrete A) (x : A) (xs : List A) → Has xs x → 0 < tally (is_it d x) xs
 has-tally d x [] h = absurd h
 has-tally d x (y ∷ xs) (inl e) = omega (arith, it-one (d y x) e)

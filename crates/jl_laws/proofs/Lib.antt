@@ -7,9 +7,9 @@ mod Begun
 mod Decided
 mod LateStays
 mod LiteralStays
+mod ItemsStay
 mod MemberStays
 mod FaultsStay
-mod PlainStage
 mod ItemsSay
 mod Frames
 mod NameOrder

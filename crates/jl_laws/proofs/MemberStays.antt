@@ -1,5 +1,5 @@
 -- The faults of an open member stay: of its key, of its value's first byte, and from inside its value.
-use Rattle.std.proofs.Common.{ℕ, ◌+◌, ◌≤◌, ◌≡◌, ◌⊎◌, inl, inr, refl, sym, ◌∙◌, ap, subst, Bool, true, false, not, ◌&&◌, ◌||◌, List, [], ◌∷◌, ◌++◌, Option, Some, None, Result, Ok, Err, arith}
+use Rattle.std.proofs.Common.{◌||◌, ℕ, ◌+◌, ◌≤◌, ◌≡◌, ◌⊎◌, inl, inr, refl, sym, ◌∙◌, ap, subst, Bool, true, false, not, ◌&&◌, List, ◌∷◌, ◌++◌, Option, Some, None, Result, Ok, Err, arith, []}
 use Rattle.jl_model.specs.JsonTree.{Tree, scalar, array, object, Trees, no_item, item, Members, no_member, member}
 use Rattle.jl_model.specs.declared.scalars.Scalar.TheVariants.{Str}
 use Rattle.jl_model.specs.declared.faults.Fault.{Fault}
@@ -9,25 +9,27 @@ use Rattle.jl_defs.specs.Texts.{Text}
 use Rattle.jl_defs.specs.Trees.{then_members}
 use Rattle.jl_defs.specs.Context.{TermDef, Context, term}
 use Rattle.jl_defs.specs.Process.{Library}
-use Rattle.jl_defs.specs.Settings.{Settings, Under, graph_property, property_of, Stand, elsewhere, inside_of, drops, lists}
+use Rattle.jl_defs.specs.Settings.{Settings, Under, graph_property, property_of, Stand, elsewhere, inside_of, drops, lists, no_property}
 use Rattle.jl_defs.specs.Keys.{Key, id, kind, value, language, direction, index, graph, included, list, set, reverse, nest, property, key_of}
 use Rattle.jl_defs.specs.ObjectContexts.{Inside, fault}
 use Rattle.jl_defs.specs.ValueObjects.{is_json, is_json_type, type_of_values}
 use Rattle.jl_defs.specs.Canon.{json_faults}
-use Rattle.jl_defs.specs.Kept.{Role, own_member, nested_member, refusal, Form, json_form, language_form, map_form, plain_form, form_of, nest_inside}
-use Rattle.jl_defs.specs.Expansion.{is_reverse_term, is_plain_graph}
-use Rattle.jl_defs.specs.MemberFaults.{Seen, key_faults, takes_json, shape_faults, unless_string, type_faults, direction_faults, value_faults as given_faults, turned_faults}
-use Rattle.jl_defs.specs.Faults.{Place, place, see, see_nest, see_nested, see_nested_in, unless_refused, applied_faults, inside_by, faults_by, if_turned, turns, json_numbers, language_faults, property_items, property_faults, judged, value_faults, members_faults, nested_faults, all_nested_faults, reversed_faults, map_faults}
+use Rattle.jl_defs.specs.Items.{Items, given}
+use Rattle.jl_defs.specs.Trees.{place_of}
+use Rattle.jl_defs.specs.Kept.{is_list_object, Role, nested_member, refusal, Form, json_form, language_form, map_form, plain_form, form_of, nest_inside}
+use Rattle.jl_defs.specs.Expansion.{is_plain_graph, by_form, contained, language_map, map_items, expand}
+use Rattle.jl_defs.specs.MemberFaults.{Seen, key_faults, takes_json, shape_faults, unless_string, type_faults, direction_faults, value_faults as given_faults, turned_faults, unless_map, nest_faults}
+use Rattle.jl_defs.specs.Faults.{Place, place, see, see_nest, see_nested, see_nested_in, unless_refused, applied_faults, inside_by, faults_by, if_turned, turns, json_numbers, language_faults, property_faults, judged, value_faults, members_faults, nested_faults, all_nested_faults, reversed_faults, map_faults}
 use Rattle.jl_defs.specs.OpenTree.{First, quote, brace, bracket, sign, Open, unread, first_byte, stand_in, Extends}
-use Rattle.jl_defs.specs.Reported.{Judging, as_they_are, judging_of, map_turned, language_turned, unless_quote, type_first, value_first, first_faults, first_known, begun_at, json_reported, form_reported, property_reported, open_by, member_reported, seen_behind, map_reported, value_reported, nested_reported, reversed_reported}
+use Rattle.jl_defs.specs.Reported.{Judging, as_they_are, as_turned, as_included, judged_items, judging_of, map_turned, language_turned, map_items_read, language_items_read, language_reported, reverse_first, unless_quote, type_first, value_first, first_faults, first_known, begun_at, json_reported, form_reported, property_reported, open_by, member_reported, seen_behind, map_reported, value_reported, nested_reported, reversed_reported, nest_first}
 use Rattle.jl_defs.specs.Sets.{tally}
-use Rattle.jl_laws.specs.Stage.{StageForm, StageProperty, StageKey, InStage}
 use Rattle.jl_laws.proofs.Bools.{true-false, picked-false}
 use Rattle.jl_laws.proofs.Counting.{tally-append}
-use Rattle.jl_laws.proofs.Begun.{Begins, extends-begins, Alike, IsRead, stand-alike}
+use Rattle.jl_laws.proofs.Begun.{Begins, extends-begins, Alike, IsRead, stand-alike, IsPlaced, begun-placed}
 use Rattle.jl_laws.proofs.Decided.{streaming}
 use Rattle.jl_defs.specs.LateKeys.{if_so}
 use Rattle.jl_laws.proofs.LiteralStays.{json-stays, language-stays}
+use Rattle.jl_laws.proofs.ItemsStay.{map-items-stay, language-items-stay}
 
 quote-le : (f : Fault → ℕ) (c : Code) (a : ℕ) (first : First) (v : Tree) → Begins (Some first) v → tally f (unless_quote c a first) ≤ tally f (unless_string c a v)
 quote-le f c a quote v b = omega arith
@@ -64,18 +66,28 @@ value-le f false taken a bracket (array at xs) h b = not-taken f taken _ (h refl
 value-le f false taken a brace (object at ms) h b = not-taken f taken _ (h refl)
 value-le f false taken a first v h b = absurd b
 
--- the keys of the stage
-abbrev IsBuilt : Key → Type 0
-IsBuilt nest = ⊥
-IsBuilt reverse = ⊥
-IsBuilt included = ⊥
-IsBuilt k = Unit {0}
+reverse-le : (f : Fault → ℕ) (a : ℕ) (first : First) (v : Tree) → Begins (Some first) v → tally f (reverse_first a first) ≤ tally f (unless_map code.InvalidReverseValue a v)
+reverse-le f a brace v b = omega arith
+reverse-le f a quote (object at ms) b = absurd b
+reverse-le f a sign (object at ms) b = absurd b
+reverse-le f a bracket (object at ms) b = absurd b
+reverse-le f a first v b = omega arith
+
+nest-le : (f : Fault → ℕ) (at : ℕ) (first : First) (v : Tree) → at ≡ place_of v → Begins (Some first) v → tally f (nest_first at first) ≤ tally f (nest_faults v)
+nest-le f at brace v e b = omega arith
+nest-le f at bracket v e b = omega arith
+nest-le f at quote (scalar at' v) e b = omega (arith, ap (λ k. tally f (fault code.InvalidNestValue k ∷ [])) e)
+nest-le f at sign (scalar at' v) e b = omega (arith, ap (λ k. tally f (fault code.InvalidNestValue k ∷ [])) e)
+nest-le f at quote (array at' xs) e b = absurd b
+nest-le f at quote (object at' ms) e b = absurd b
+nest-le f at sign (array at' xs) e b = absurd b
+nest-le f at sign (object at' ms) e b = absurd b
 
 -- a value's first byte, where the key tells what it must be
-first-le : (f : Fault → ℕ) (k : Key) (json taken : Bool) (a at : ℕ) (first : First) (v : Tree) → IsBuilt k → (json ≡ false → taken ≡ false) → Begins (Some first) v →
+first-le : (f : Fault → ℕ) (k : Key) (json taken : Bool) (a at : ℕ) (first : First) (v : Tree) → at ≡ place_of v → (json ≡ false → taken ≡ false) → Begins (Some first) v →
     tally f (first_faults k json a at first) ≤ tally f (shape_faults k taken a v)
-first-le f nest json taken a at first v j h b = absurd j
-first-le f reverse json taken a at first v j h b = absurd j
+first-le f nest json taken a at first v j h b = nest-le f at first v j b
+first-le f reverse json taken a at first v j h b = reverse-le f a first v b
 first-le f value json taken a at first v j h b = value-le f json taken a first v h b
 first-le f id json taken a at first v j h b = quote-le f code.InvalidIdValue a first v b
 first-le f index json taken a at first v j h b = quote-le f code.InvalidIndexValue a first v b
@@ -84,7 +96,7 @@ first-le f direction json taken a at first v j h b = direction-le f a first v b
 first-le f kind json taken a at first v j h b = type-le f a first v b
 first-le f k json taken a at first v j h b = omega arith
 
-first-known-le : (f : Fault → ℕ) (k : Key) (json taken : Bool) (a at : ℕ) (first : Option First) (v : Tree) → IsBuilt k → (json ≡ false → taken ≡ false) → Begins first v →
+first-known-le : (f : Fault → ℕ) (k : Key) (json taken : Bool) (a at : ℕ) (first : Option First) (v : Tree) → IsPlaced first at v → (json ≡ false → taken ≡ false) → Begins first v →
     tally f (first_known k json a at first) ≤ tally f (shape_faults k taken a v)
 first-known-le f k json taken a at None v j h b = omega arith
 first-known-le f k json taken a at (Some first) v j h b = first-le f k json taken a at first v j h b
@@ -101,91 +113,173 @@ form-alike (Some t) (object at ms) (scalar at' w) e = absurd e
 form-alike (Some t) (object at ms) (array at' ys) e = absurd e
 form-alike (Some t) (object at ms) (object at' ns) e = refl
 
--- an open value stays, in each context, under each property and at each place of the stage
+-- an open value stays, in each context, under each property, at each place and however its items are judged
 abbrev pub Stays : (Fault → ℕ) → Settings → Open → Tree → Type 0
-Stays f s o v = (d : Context) (u : Under) (w : Stand) → InStage s d u w v → tally f (value_reported s d u w as_they_are o) ≤ tally f (value_faults s d u w v)
+Stays f s o v =
+    (d : Context) (u : Under) (w : Stand) (j : Judging) →
+    tally f (value_reported s d u w j o) ≤ tally f (value_faults s d u w v) + tally f (judged_items j (given (expand s d u w v)) (judged s d v))
 
--- an open value of a property
-form-le : (f : Fault → ℕ) (s : Settings) (d : Context) (name : Text) (t : Option TermDef) (k : Form) (o : Open) (v : Tree) (mapped : TermDef → List Fault) (theirs : TermDef → List Fault) →
-    Extends o v → Stays f s o v → StageForm k (InStage s d (property_of name) elsewhere v) →
-    tally f (form_reported k t o mapped (value_reported s d (property_of name) elsewhere as_they_are o))
-    ≤ tally f (faults_by k t (λ _. json_faults v) (λ _. language_faults v) theirs (λ _. value_faults s d (property_of name) elsewhere v))
-form-le f s d name t json_form o v mapped theirs x h w = json-stays f o v x
-form-le f s d name t language_form o v mapped theirs x h w = language-stays f o v x
-form-le f s d name t map_form o v mapped theirs x h w = absurd w
-form-le f s d name t plain_form o v mapped theirs x h w = h d (property_of name) elsewhere w
+abbrev pub MapStays : (Fault → ℕ) → Settings → Open → Tree → Type 0
+MapStays f s o v = (d : Context) (t : TermDef) (name : Text) → tally f (map_reported s d t name o) ≤ tally f (map_faults s d t name v)
 
--- what an open map of a property gives
-abbrev pub mapped_read : Settings → Context → Text → Open → TermDef → List Fault
-mapped_read s d name o t = map_reported s d t name o ++ map_turned s own_member d t name o
+abbrev pub NestStays : (Fault → ℕ) → Settings → Open → Tree → Type 0
+NestStays f s o v =
+    (i : Inside) (name : Text) (p : Place) (seen : Seen) → tally f (nested_reported s i name p seen o) ≤ tally f (nested_faults s i name p seen v)
+
+abbrev pub ReverseStays : (Fault → ℕ) → Settings → Open → Tree → Type 0
+ReverseStays f s o v = (d : Context) → tally f (reversed_reported s d o) ≤ tally f (reversed_faults s d v)
+
+contained-flat : (t : Option TermDef) (is_list : Bool) (at : ℕ) (xs : Option Items) → lists t ≡ false → is_plain_graph t ≡ false → given (contained t is_list at xs) ≡ given xs
+contained-flat t is_list at None l g = refl
+contained-flat t is_list at (Some xs) l g =
+    picked-false (lists t && not is_list) _ _ (ap (λ b. b && not is_list) l) ∙ picked-false (is_plain_graph t) _ _ g
+
+-- the items of a property, by its form
+abbrev items_by : Settings → Context → Text → Tree → Form → Items
+items_by s d name v k =
+    given (by_form k v (term d name)
+    (λ _. language_map d v)
+    (λ t. map_items s d t name v)
+    (λ _. contained (term d name) (is_list_object s d (property_of name) elsewhere v) (place_of v) (expand s d (property_of name) elsewhere v)))
+
+or-none : (a b : Bool) → (a || b) ≡ false → (a ≡ false) × (b ≡ false)
+or-none true b e = absurd (true-false e)
+or-none false b e = (refl, e)
+
+-- a plain value: where it is turned, its items are judged, unless they become one list or are wrapped
+plain-le : (f : Fault → ℕ) (s : Settings) (d : Context) (role : Role) (name : Text) (o : Open) (v : Tree) → Stays f s o v →
+    tally f (value_reported s d (property_of name) elsewhere (judging_of role (term d name)) o)
+    ≤ tally f (value_faults s d (property_of name) elsewhere v) + tally f (if_turned (turns role (term d name)) (λ _. turned_faults (items_by s d name v plain_form)))
+plain-le f s d role name o v h = by (turns role t) (lists t || is_plain_graph t) refl
+  where
+    t : Option TermDef
+    t = term d name
+
+    xs : Option Items
+    xs = expand s d (property_of name) elsewhere v
+
+    by : (b l : Bool) → (lists t || is_plain_graph t) ≡ l →
+        tally f (value_reported s d (property_of name) elsewhere (elim (b && not l) [ true ↦ as_turned | false ↦ as_they_are ]) o)
+        ≤ tally f (value_faults s d (property_of name) elsewhere v) + tally f (if_turned b (λ _. turned_faults (items_by s d name v plain_form)))
+    by true false q =
+        let flat = or-none (lists t) (is_plain_graph t) q in
+        omega (
+          arith,
+          h d (property_of name) elsewhere as_turned,
+          ap (λ ys. tally f (turned_faults ys)) (contained-flat t (is_list_object s d (property_of name) elsewhere v) (place_of v) xs flat.0 flat.1),
+        )
+    by true true q = omega (arith, h d (property_of name) elsewhere as_they_are)
+    by false l q = omega (arith, h d (property_of name) elsewhere as_they_are)
+
+-- what an open map of a container gives, and its items where they are turned
+abbrev pub mapped_read : Settings → Role → Context → Text → Open → TermDef → List Fault
+mapped_read s role d name o t = map_reported s d t name o ++ map_turned s role d t name o
+
+-- what an open value of a property gives, by its form
+abbrev form_read : Settings → Inside → Role → Text → Open → Form → List Fault
+form_read s i role name o k =
+    form_reported k (term i.final name) o (mapped_read s role i.final name o) (value_reported s i.final (property_of name) elsewhere (judging_of role (term i.final name)) o)
+    ++ language_turned k i role name o
+
+if-turned-same : (f : Fault → ℕ) (b : Bool) (xs ys : List Fault) → tally f xs ≤ tally f ys → tally f (if_turned b (λ _. xs)) ≤ tally f (if_turned b (λ _. ys))
+if-turned-same f true xs ys h = h
+if-turned-same f false xs ys h = omega arith
+
+-- an open value of a property, by its form: a further form is a further clause here
+form-le : (f : Fault → ℕ) (s : Settings) (i : Inside) (role : Role) (name : Text) (k : Form) (o : Open) (v : Tree) →
+    Extends o v → Stays f s o v → MapStays f s o v →
+    tally f (form_read s i role name o k)
+    ≤ tally f (faults_by k (term i.final name) (λ _. json_faults v) (λ _. language_faults v) (λ t. map_faults s i.final t name v) (λ _. value_faults s i.final (property_of name) elsewhere v)
+    ++ if_turned (turns role (term i.final name)) (λ _. turned_faults (items_by s i.final name v k)))
+form-le f s i role name json_form o v x h m =
+    omega (
+      arith,
+      json-stays f o v x,
+      tally-append f (json_reported o) [],
+      tally-append f (json_faults v) (if_turned (turns role (term i.final name)) (λ _. turned_faults (items_by s i.final name v json_form))),
+    )
+form-le f s i role name language_form o v x h m =
+    let turned = turns role (term i.final name) in
+    omega (
+      arith,
+      language-stays f o v x,
+      if-turned-same f turned (turned_faults (language_items_read i.final o)) (turned_faults (language_map i.final v)) (language-items-stay f i.final o v x),
+      tally-append f (language_reported o) (if_turned turned (λ _. turned_faults (language_items_read i.final o))),
+      tally-append f (language_faults v) (if_turned turned (λ _. turned_faults (language_map i.final v))),
+    )
+form-le f s i role name map_form o v x h m = by (term i.final name)
+  where
+    d : Context
+    d = i.final
+
+    plain : List Fault
+    plain = value_reported s d (property_of name) elsewhere (judging_of role (term d name)) o
+
+    xs : Option Items
+    xs = contained (term d name) (is_list_object s d (property_of name) elsewhere v) (place_of v) (expand s d (property_of name) elsewhere v)
+
+    by : (t : Option TermDef) →
+        tally f (form_reported map_form t o (mapped_read s role d name o) plain ++ [])
+        ≤ tally f (faults_by map_form t (λ _. json_faults v) (λ _. language_faults v) (λ t. map_faults s d t name v) (λ _. value_faults s d (property_of name) elsewhere v)
+        ++ if_turned (turns role t) (λ _. turned_faults (given (by_form map_form v t (λ _. language_map d v) (λ t. map_items s d t name v) (λ _. xs)))))
+    by None = omega arith
+    by (Some t) =
+        let mine = if_turned (turns role (Some t)) (λ _. turned_faults (map_items_read s d t name o)) in
+        let theirs = if_turned (turns role (Some t)) (λ _. turned_faults (map_items s d t name v)) in
+        omega (
+          arith,
+          m d t name,
+          if-turned-same f (turns role (Some t)) (turned_faults (map_items_read s d t name o)) (turned_faults (map_items s d t name v)) (map-items-stay f s d t name o v x),
+          tally-append f (map_reported s d t name o ++ mine) [],
+          tally-append f (map_reported s d t name o) mine,
+          tally-append f (map_faults s d t name v) theirs,
+        )
+form-le f s i role name plain_form o v x h m =
+    omega (
+      arith,
+      plain-le f s i.final role name o v h,
+      tally-append f (value_reported s i.final (property_of name) elsewhere (judging_of role (term i.final name)) o) [],
+      tally-append f (value_faults s i.final (property_of name) elsewhere v) (if_turned (turns role (term i.final name)) (λ _. turned_faults (items_by s i.final name v plain_form))),
+    )
 
 no-turned : (f : Fault → ℕ) (b : Bool) → tally f (if_turned b (λ _. [])) ≡ 0
 no-turned f true = refl
 no-turned f false = refl
 
-form-unread : (f : Fault → ℕ) (s : Settings) (d : Context) (name : Text) (j : Judging) (t : Option TermDef) (k : Form) →
-    tally f (form_reported k t unread (mapped_read s d name unread) (value_reported s d (property_of name) elsewhere j unread)) ≡ 0
+form-unread : (f : Fault → ℕ) (s : Settings) (i : Inside) (role : Role) (name : Text) (j : Judging) (t : Option TermDef) (k : Form) →
+    tally f (form_reported k t unread (mapped_read s role i.final name unread) (value_reported s i.final (property_of name) elsewhere j unread) ++ language_turned k i role name unread) ≡ 0
 unfolding value_reported json_reported
-form-unread f s d name j t json_form = refl
-form-unread f s d name j t language_form = refl
-form-unread f s d name j None map_form = refl
-form-unread f s d name j (Some t) map_form = no-turned f (turns own_member (Some t))
-form-unread f s d name j t plain_form = refl
-
-judging-plain : (t : Option TermDef) → is_reverse_term t ≡ false → judging_of own_member t ≡ as_they_are
-judging-plain t e = picked-false (is_reverse_term t && not (lists t || is_plain_graph t)) _ _ (ap (λ b. b && not (lists t || is_plain_graph t)) e)
-
-if-not-turned : (f : Fault → ℕ) (b : Bool) (fs : Unit {0} → List Fault) → b ≡ false → tally f (if_turned b fs) ≡ 0
-if-not-turned f true fs e = cc
-if-not-turned f false fs e = refl
-
--- a property that isn't turned gives nothing for that
-language-straight : (f : Fault → ℕ) (k : Form) (i : Inside) (name : Text) (o : Open) → is_reverse_term (term i.final name) ≡ false → tally f (language_turned k i own_member name o) ≡ 0
-language-straight f language_form i name o e = if-not-turned f (is_reverse_term (term i.final name)) _ e
-language-straight f json_form i name o e = refl
-language-straight f map_form i name o e = refl
-language-straight f plain_form i name o e = refl
+form-unread f s i role name j t json_form = refl
+form-unread f s i role name j t language_form = no-turned f (turns role (term i.final name))
+form-unread f s i role name j None map_form = refl
+form-unread f s i role name j (Some t) map_form =
+    let none = if_turned (turns role (Some t)) (λ _. []) in
+    omega (arith, no-turned f (turns role (Some t)), tally-append f none [])
+form-unread f s i role name j t plain_form = refl
 
 is-read : (o : Open) → (o ≡ unread) ⊎ IsRead o
 is-read unread = inl refl
 is-read o = inr tt
 
-property-le : (f : Fault → ℕ) (s : Settings) (i : Inside) (name : Text) (o : Open) (v : Tree) (theirs : TermDef → List Fault) →
-    Extends o v → Stays f s o v → StageProperty (term i.final name) v (InStage s i.final (property_of name) elsewhere v) →
-    tally f (property_reported i own_member name o (λ d u w k. value_reported s d u w k o) (mapped_read s i.final name o))
-    ≤ tally f (property_faults s i.final own_member name v theirs (λ _. value_faults s i.final (property_of name) elsewhere v))
-property-le f s i name o v theirs x h (r, w) = by (is-read o)
+property-le : (f : Fault → ℕ) (s : Settings) (i : Inside) (role : Role) (name : Text) (o : Open) (v : Tree) →
+    Extends o v → Stays f s o v → MapStays f s o v →
+    tally f (property_reported i role name o (λ d u w k. value_reported s d u w k o) (mapped_read s role i.final name o))
+    ≤ tally f (property_faults s i.final role name v (λ t. map_faults s i.final t name v) (λ _. value_faults s i.final (property_of name) elsewhere v))
+property-le f s i role name o v x h m = by (is-read o)
   where
     t : Option TermDef
     t = term i.final name
 
-    mine : Form → Judging → Open → List Fault
-    mine k j o = form_reported k t o (mapped_read s i.final name o) (value_reported s i.final (property_of name) elsewhere j o)
-
-    values : List Fault
-    values = faults_by (form_of t v) t (λ _. json_faults v) (λ _. language_faults v) theirs (λ _. value_faults s i.final (property_of name) elsewhere v)
-
     all : List Fault
-    all = property_faults s i.final own_member name v theirs (λ _. value_faults s i.final (property_of name) elsewhere v)
+    all = property_faults s i.final role name v (λ t. map_faults s i.final t name v) (λ _. value_faults s i.final (property_of name) elsewhere v)
 
-    turned : List Fault
-    turned = language_turned (form_of t (stand_in o)) i own_member name o
-
-    straight : (n : ℕ) → tally f (mine (form_of t (stand_in o)) (judging_of own_member t) o) ≤ n → tally f (mine (form_of t (stand_in o)) (judging_of own_member t) o ++ turned) ≤ n
-    straight n le = omega (arith, le, language-straight f (form_of t (stand_in o)) i name o r, tally-append f (mine (form_of t (stand_in o)) (judging_of own_member t) o) turned)
-
-    by : (o ≡ unread) ⊎ IsRead o → tally f (mine (form_of t (stand_in o)) (judging_of own_member t) o ++ turned) ≤ tally f all
-    by (inl e) = straight (tally f all)
-        (subst (λ o. tally f (mine (form_of t (stand_in o)) (judging_of own_member t) o) ≤ tally f all) (sym e)
-        (omega (arith, form-unread f s i.final name (judging_of own_member t) t (form_of t (stand_in unread)))))
-    by (inr e) = straight (tally f all)
-        (subst (λ j. tally f (mine (form_of t (stand_in o)) j o) ≤ tally f all) (sym (judging-plain t r))
-        (subst (λ k. tally f (mine k as_they_are o) ≤ tally f all) (sym (form-alike t (stand_in o) v (stand-alike o v e x)))
-        (omega (
-          arith,
-          form-le f s i.final name t (form_of t v) o v (mapped_read s i.final name o) theirs x h w,
-          tally-append f values (if_turned (turns own_member t) (λ _. turned_faults (property_items s i.final name v))),
-        ))))
+    by : (o ≡ unread) ⊎ IsRead o → tally f (form_read s i role name o (form_of t (stand_in o))) ≤ tally f all
+    by (inl e) =
+        subst (λ o. tally f (form_read s i role name o (form_of t (stand_in o))) ≤ tally f all) (sym e)
+        (omega (arith, form-unread f s i role name (judging_of role t) t (form_of t (stand_in unread))))
+    by (inr e) =
+        subst (λ k. tally f (form_read s i role name o k) ≤ tally f all) (sym (form-alike t (stand_in o) v (stand-alike o v e x)))
+        (form-le f s i role name (form_of t v) o v x h m)
 
 if-so-same : (f : Fault → ℕ) (b : Bool) (xs ys : List Fault) → tally f xs ≤ tally f ys → tally f (if_so b xs) ≤ tally f (if_so b ys)
 if-so-same f true xs ys h = h
@@ -206,11 +300,7 @@ inside_faults s i p seen n v k nested =
 
 abbrev inside_read : Settings → Inside → Place → Seen → Text → Open → Key → List Fault
 inside_read s i p seen n o k =
-    open_by k i p seen n o (λ d u w j. value_reported s d u w j o) (mapped_read s i.final n o) (λ seen. nested_reported s i n p seen o) (λ _. reversed_reported s i.final o)
-
-abbrev pub InStageBy : Settings → Inside → Under → Stand → Text → Tree → Key → Type 0
-InStageBy s i under stand n v k =
-    StageKey k (StageProperty (term i.final n) v (InStage s i.final (property_of n) elsewhere v)) (λ u w. InStage s i.final u w v) under stand
+    open_by k i p seen n o (λ d u w j. value_reported s d u w j o) (mapped_read s p.role i.final n o) (λ seen. nested_reported s i n p seen o) (λ _. reversed_reported s i.final o)
 
 list-le : (f : Fault → ℕ) (ignored : Bool) (mine theirs : List Fault) (numbers : Unit {0} → List Fault) (under : Under → List Fault) (included_faults properties nested reversed set_faults : Unit {0} → List Fault) →
     tally f mine ≤ tally f theirs →
@@ -218,25 +308,25 @@ list-le : (f : Fault → ℕ) (ignored : Bool) (mine theirs : List Fault) (numbe
 list-le f true mine theirs numbers under included_faults properties nested reversed set_faults h = omega arith
 list-le f false mine theirs numbers under included_faults properties nested reversed set_faults h = h
 
--- the case by key: a further form is a further clause here
-inside-le : (f : Fault → ℕ) (s : Settings) (i : Inside) (under : Under) (stand : Stand) (kinds : List Tree) (seen : Seen) (n : Text) (o : Open) (v : Tree) (k : Key) (nested : Unit {0} → List Fault) →
-    Extends o v → Stays f s o v → InStageBy s i under stand n v k →
-    tally f (inside_read s i (place own_member under stand kinds) seen n o k) ≤ tally f (inside_faults s i (place own_member under stand kinds) seen n v k nested)
-inside-le f s i under stand kinds seen n o v (property name) nested x h w = property-le f s i n o v (λ t. map_faults s i.final t n v) x h w
-inside-le f s i under stand kinds seen n o v value nested x h w = if-so-same f (is_json i.input) (json_reported o) (json_faults v) (json-stays f o v x)
-inside-le f s i under stand kinds seen n o v graph nested x h w = h i.final graph_property elsewhere w
-inside-le f s i under stand kinds seen n o v list nested x h w = list-le f (drops under) _ _ _ _ _ _ _ _ _ (h i.final under elsewhere w)
-inside-le f s i under stand kinds seen n o v set nested x h w = h i.final under (inside_of stand) w
-inside-le f s i under stand kinds seen n o v included nested x h w = absurd w
-inside-le f s i under stand kinds seen n o v reverse nested x h w = absurd w
-inside-le f s i under stand kinds seen n o v nest nested x h w = absurd w
-inside-le f s i under stand kinds seen n o v k nested x h w = omega arith
+-- a value whose items aren't judged
+as-it-is : (f : Fault → ℕ) (s : Settings) (o : Open) (v : Tree) (d : Context) (u : Under) (w : Stand) → Stays f s o v →
+    tally f (value_reported s d u w as_they_are o) ≤ tally f (value_faults s d u w v)
+as-it-is f s o v d u w h = omega (arith, h d u w as_they_are)
 
-built : (s : Settings) (i : Inside) (under : Under) (stand : Stand) (n : Text) (v : Tree) (k : Key) → InStageBy s i under stand n v k → IsBuilt k
-built s i under stand n v nest w = absurd w
-built s i under stand n v reverse w = absurd w
-built s i under stand n v included w = absurd w
-built s i under stand n v k w = tt
+-- the case by key: a further form is a further clause here
+inside-le : (f : Fault → ℕ) (s : Settings) (i : Inside) (role : Role) (under : Under) (stand : Stand) (kinds : List Tree) (seen : Seen) (n : Text) (o : Open) (v : Tree) (k : Key) →
+    Extends o v → Stays f s o v → MapStays f s o v → NestStays f s o v → ReverseStays f s o v →
+    tally f (inside_read s i (place role under stand kinds) seen n o k) ≤ tally f (inside_faults s i (place role under stand kinds) seen n v k (λ _. nested_faults s i n (place role under stand kinds) (see_nest seen) v))
+inside-le f s i role under stand kinds seen n o v (property name) x h m q r = property-le f s i role n o v x h m
+inside-le f s i role under stand kinds seen n o v value x h m q r = if-so-same f (is_json i.input) (json_reported o) (json_faults v) (json-stays f o v x)
+inside-le f s i role under stand kinds seen n o v graph x h m q r = as-it-is f s o v i.final graph_property elsewhere h
+inside-le f s i role under stand kinds seen n o v included x h m q r =
+    omega (arith, h i.final no_property elsewhere as_included, tally-append f (value_faults s i.final no_property elsewhere v) (judged s i.final v))
+inside-le f s i role under stand kinds seen n o v list x h m q r = list-le f (drops under) _ _ _ _ _ _ _ _ _ (as-it-is f s o v i.final under elsewhere h)
+inside-le f s i role under stand kinds seen n o v set x h m q r = as-it-is f s o v i.final under (inside_of stand) h
+inside-le f s i role under stand kinds seen n o v reverse x h m q r = r i.final
+inside-le f s i role under stand kinds seen n o v nest x h m q r = q i n (place role under stand kinds) (see_nest seen)
+inside-le f s i role under stand kinds seen n o v k x h m q r = omega arith
 
 -- the faults of one member
 abbrev pub own_faults : Settings → Inside → Place → Seen → ℕ → Text → Tree → List Fault → List Fault
@@ -252,32 +342,62 @@ takes-false : (json : Bool) (i : Inside) (kinds : List Tree) → json ≡ false 
 takes-false true i kinds e = absurd (true-false e)
 takes-false false i kinds e = refl
 
-pub member-le : (f : Fault → ℕ) (base : Option Text) (library : Library) (i : Inside) (under : Under) (stand : Stand) (kinds : List Tree) (seen : Seen) (a : ℕ) (n : Text) (o : Open) (v : Tree) (rest : Members) →
-    Extends o v → Stays f (streaming base library) o v → InStageBy (streaming base library) i under stand n v (key_of i.final n) →
-    tally f (member_reported i (place own_member under stand kinds) seen a n o
+pub member-le : (f : Fault → ℕ) (base : Option Text) (library : Library) (i : Inside) (role : Role) (under : Under) (stand : Stand) (kinds : List Tree) (seen : Seen) (a : ℕ) (n : Text) (o : Open) (v : Tree) (rest : Members) →
+    Extends o v → Stays f (streaming base library) o v → MapStays f (streaming base library) o v → NestStays f (streaming base library) o v → ReverseStays f (streaming base library) o v →
+    (read_nested : Seen → List Fault) (read_reversed : Unit {0} → List Fault) →
+    ((k : Key) → refusal role k ≡ None →
+    tally f (open_by k i (place role under stand kinds) seen n o (λ d u w j. value_reported (streaming base library) d u w j o) (mapped_read (streaming base library) role i.final n o) read_nested read_reversed)
+    ≤ tally f (inside_read (streaming base library) i (place role under stand kinds) seen n o k)) →
+    tally f (member_reported i (place role under stand kinds) seen a n o
     (λ d u w j. value_reported (streaming base library) d u w j o)
-    (mapped_read (streaming base library) i.final n o)
-    (λ seen. nested_reported (streaming base library) i n (place own_member under stand kinds) seen o)
-    (λ _. reversed_reported (streaming base library) i.final o))
-    ≤ tally f (members_faults (streaming base library) i (place own_member under stand kinds) seen (member a n v rest))
+    (mapped_read (streaming base library) role i.final n o) read_nested read_reversed)
+    ≤ tally f (members_faults (streaming base library) i (place role under stand kinds) seen (member a n v rest))
 unfolding value_faults
-member-le f base library i under stand kinds seen a n o v rest x h w =
-    let s = streaming base library in
-    let p = place own_member under stand kinds in
-    let k = key_of i.final n in
-    let nested = nested_faults s i n p (see_nest seen) v in
-    let taken = takes_json s.order i seen kinds in
-    let first = first_known k (is_json i.input) a (begun_at o) (first_byte o) in
-    omega (
-      arith,
-      first-known-le f k (is_json i.input) taken a (begun_at o) (first_byte o) v (built s i under stand n v k w) (takes-false (is_json i.input) i seen.kinds) (extends-begins o v x),
-      inside-le f s i under stand kinds seen n o v k (λ _. nested) x h w,
-      tally-append f (key_faults k under seen a) (first ++ inside_read s i p seen n o k),
-      tally-append f first (inside_read s i p seen n o k),
-      tally-append f (own_faults s i p seen a n v nested) (members_faults s i p (see s i own_member under seen a n v) rest),
-      tally-append f (key_faults k under seen a) (shape_faults k taken a v ++ inside_faults s i p seen n v k (λ _. nested)),
-      tally-append f (shape_faults k taken a v) (inside_faults s i p seen n v k (λ _. nested)),
-    )
+member-le f base library i role under stand kinds seen a n o v rest x h m nests r read_nested read_reversed q = by (refusal role k) refl
+  where
+    s : Settings
+    s = streaming base library
+
+    p : Place
+    p = place role under stand kinds
+
+    k : Key
+    k = key_of i.final n
+
+    nested : List Fault
+    nested = nested_faults s i n p (see_nest seen) v
+
+    taken : Bool
+    taken = takes_json s.order i seen kinds
+
+    first : List Fault
+    first = first_known k (is_json i.input) a (begun_at o) (first_byte o)
+
+    read : List Fault
+    read = open_by k i p seen n o (λ d u w j. value_reported s d u w j o) (mapped_read s role i.final n o) read_nested read_reversed
+
+    theirs : List Fault
+    theirs = inside_faults s i p seen n v k (λ _. nested)
+
+    others : List Fault
+    others = members_faults s i p (see s i role under seen a n v) rest
+
+    by : (c : Option Code) → refusal role k ≡ c →
+        tally f (unless_refused c a (λ _. key_faults k under seen a ++ (first ++ read)))
+        ≤ tally f (unless_refused c a (λ _. key_faults k under seen a ++ (shape_faults k taken a v ++ theirs)) ++ others)
+    by (Some c) e = omega (arith, tally-append f (fault c a ∷ []) others)
+    by None e =
+        omega (
+          arith,
+          first-known-le f k (is_json i.input) taken a (begun_at o) (first_byte o) v (begun-placed o v x) (takes-false (is_json i.input) i seen.kinds) (extends-begins o v x),
+          q k e,
+          inside-le f s i role under stand kinds seen n o v k x h m nests r,
+          tally-append f (key_faults k under seen a) (first ++ read),
+          tally-append f first read,
+          tally-append f (key_faults k under seen a ++ (shape_faults k taken a v ++ theirs)) others,
+          tally-append f (key_faults k under seen a) (shape_faults k taken a v ++ theirs),
+          tally-append f (shape_faults k taken a v) theirs,
+        )
 
 -- the faults of members, behind what the first of them show
 pub members-then : (f : Fault → ℕ) (s : Settings) (i : Inside) (p : Place) (seen : Seen) (ms rest : Members) →
@@ -290,10 +410,6 @@ members-then f s i p seen (member a n v ms) rest =
     omega (arith, members-then f s i p next ms rest, tally-append f own (members_faults s i p next ms), tally-append f own (members_faults s i p next (then_members ms rest)))
 
 -- in streaming order only the types before a member count
-inside-same : (s : Settings) (i : Inside) (role : Role) (under : Under) (stand : Stand) (kinds others : List Tree) (seen : Seen) (a : ℕ) (n : Text) (v : Tree) (k : Key) (xs ys : List Fault) → xs ≡ ys →
-    inside_faults s i (place role under stand kinds) seen n v k (λ _. xs) ≡ inside_faults s i (place role under stand others) seen n v k (λ _. ys)
-inside-same s i role under stand kinds others seen a n v k xs ys e = ap (λ l. inside_faults s i (place role under stand kinds) seen n v k (λ _. l)) e
-
 own-same : (base : Option Text) (library : Library) (i : Inside) (role : Role) (under : Under) (stand : Stand) (kinds others : List Tree) (seen : Seen) (a : ℕ) (n : Text) (v : Tree) (xs ys : List Fault) → xs ≡ ys →
     own_faults (streaming base library) i (place role under stand kinds) seen a n v xs ≡ own_faults (streaming base library) i (place role under stand others) seen a n v ys
 own-same base library i role under stand kinds others seen a n v xs ys e = ap (λ l. own_faults (streaming base library) i (place role under stand kinds) seen a n v l) e

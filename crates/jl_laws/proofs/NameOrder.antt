@@ -1,8 +1,8 @@
 -- Names in the order of their bytes.
-use Rattle.std.proofs.Common.{ℕ, ◌<◌, ◌==◌, nat_lt, ◌≡◌, ◌⊎◌, inl, inr, refl, sym, ◌∙◌, subst, Bool, true, false, ◌&&◌, ◌||◌, [], ◌∷◌, arith}
+use Rattle.std.proofs.Common.{ℕ, ◌<◌, ◌==◌, nat_lt, ◌≡◌, ◌⊎◌, inl, inr, refl, sym, ◌∙◌, subst, Bool, true, false, ◌&&◌, [], ◌∷◌, arith}
 use Rattle.std.proofs.lemmas.Bool.{ltb-true, ltb-false, lt-ltb, eqb-true, eq-eqb}
 use Rattle.jl_defs.specs.Texts.{Text, is_before}
-use Rattle.jl_laws.proofs.Bools.{or-true, and-left, and-right}
+use Rattle.jl_laws.proofs.Bools.{true-false, or-left, or-right, or-true, and-left, and-right}
 
 abbrev Before : Text → Text → Type 0
 Before [] [] = ⊥
@@ -19,14 +19,6 @@ before-true (c ∷ cs) (d ∷ ds) e = by (or-true e) (λ e'. before-true cs ds e
     by : (nat_lt c d ≡ true) ⊎ ((c == d && is_before cs ds) ≡ true) → (is_before cs ds ≡ true → Before cs ds) → (c < d) ⊎ ((c ≡ d) × Before cs ds)
     by (inl h) next = inl (ltb-true c d h)
     by (inr h) next = inr (eqb-true c d (and-left (c == d) (is_before cs ds) h), next (and-right (c == d) (is_before cs ds) h))
-
-or-right : (a b : Bool) → b ≡ true → (a || b) ≡ true
-or-right true b e = refl
-or-right false b e = e
-
-or-left : (a b : Bool) → a ≡ true → (a || b) ≡ true
-or-left true b e = refl
-or-left false b e = absurd cc
 
 and-both : (a b : Bool) → a ≡ true → b ≡ true → (a && b) ≡ true
 and-both true b e h = h
@@ -82,10 +74,7 @@ pub before-other : (x y : Text) → (x ≡ y → ⊥) → is_before x y ≡ fals
 before-other x y apart e = by (sorted-out x y)
   where
     by : Before x y ⊎ ((x ≡ y) ⊎ Before y x) → is_before y x ≡ true
-    by (inl h) = absurd (true-is-false (sym (true-before x y h) ∙ e))
-      where
-        true-is-false : true ≡ false → ⊥
-        true-is-false q = cc
+    by (inl h) = absurd (true-false (sym (true-before x y h) ∙ e))
     by (inr (inl h)) = absurd (apart h)
     by (inr (inr h)) = true-before y x h
 
@@ -101,9 +90,6 @@ pub before-between : (x y z : Text) → is_before z y ≡ true → is_before z x
 before-between x y z e f = by (sorted-out z x)
   where
     by : Before z x ⊎ ((z ≡ x) ⊎ Before x z) → is_before x y ≡ true
-    by (inl h) = absurd (true-is-false (sym (true-before z x h) ∙ f))
-      where
-        true-is-false : true ≡ false → ⊥
-        true-is-false q = cc
+    by (inl h) = absurd (true-false (sym (true-before z x h) ∙ f))
     by (inr (inl h)) = subst (λ w. is_before w y ≡ true) h e
     by (inr (inr h)) = true-before x y (passed-on x z y h (before-true z y e))

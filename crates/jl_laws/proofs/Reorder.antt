@@ -280,9 +280,6 @@ once-left (member b m w front) a n v back h = (named-left m front a n v back h.0
 is-context : (n : Text) → is_context_name n ≡ true → n ≡ codes "@context"
 is-context n e = (bytes_eq-Decides n (codes "@context")).0 e
 
-own : ℕ → Tree → Option Own
-own a v = Some (record { at = a; local = v })
-
 context-moved : (front : Members) (a : ℕ) (n : Text) (v : Tree) (back : Members) → HasNamesOnce (then_members front (member a n v back)) →
     any_context (then_members front (member a n v back)) ≡ any_context (member a n v (then_members front back))
 context-moved no_member a n v back h = refl

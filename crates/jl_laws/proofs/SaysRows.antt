@@ -2,7 +2,7 @@
 -- included members. Each document stands above its row.
 use Rattle.std.specs.Prelude.{None, Some, [], codes, refl, true, ◌++◌, ◌∷◌, ◌≡◌}
 use Rattle.jl_model.specs.JsonTree.{array, item, member, no_item, no_member, object, scalar}
-use Rattle.jl_model.specs.declared.orders.Order.TheVariants.{Any}
+use Rattle.jl_model.specs.declared.orders.Order.TheVariants.{Any, Streaming}
 use Rattle.jl_model.specs.declared.scalars.Scalar.TheVariants.{Bool as truth, Null, Number, Str}
 use Rattle.jl_defs.proofs.RowWords.{settings}
 use Rattle.jl_laws.proofs.RowWords.{walked, walked_in_both}
@@ -246,3 +246,13 @@ row_47 = refl
 row_48 : walked (settings Any None []) (object 0 (member 1 (codes "@context") (object 12 (member 13 (codes "id") (scalar 18 (Str (codes "@id"))) no_member)) (member 25 (codes "id") (scalar 30 (Str (codes "http://a/s"))) (member 43 (codes "@type") (scalar 51 (Str (codes "http://a/T"))) (member 64 (codes "http://a/p") (object 77 (member 78 (codes "http://a/q") (scalar 91 (Str (codes "x"))) (member 95 (codes "@id") (scalar 101 (Str (codes "http://a/o"))) no_member))) no_member))))) (codes "<http://a/o> <http://a/q> \"x\" .\n" ∷ codes "<http://a/s> <http://a/p> <http://a/o> .\n" ∷ codes "<http://a/s> <http://www.w3.org/1999/02/22-rdf-syntax-ns#type> <http://a/T> .\n" ∷ []) ≡ true
 unfolding walked
 row_48 = refl
+
+-- {"@context":{"T":{"@id":"http://a/T","@context":{"i":"@id","q":"http://t/q"}},"p":{"@id":"http://a/p","@context":{"i":"http://x/i"}},"q":"http://a/q"},"@id":"http://a/s","@type":"T","p":{"i":{"@id":"http://a/o"},"q":"x"}}: the two orders give different quads
+row_49 : walked (settings Any None []) (object 0 (member 1 (codes "@context") (object 12 (member 13 (codes "T") (object 17 (member 18 (codes "@id") (scalar 24 (Str (codes "http://a/T"))) (member 37 (codes "@context") (object 48 (member 49 (codes "i") (scalar 53 (Str (codes "@id"))) (member 59 (codes "q") (scalar 63 (Str (codes "http://t/q"))) no_member))) no_member))) (member 78 (codes "p") (object 82 (member 83 (codes "@id") (scalar 89 (Str (codes "http://a/p"))) (member 102 (codes "@context") (object 113 (member 114 (codes "i") (scalar 118 (Str (codes "http://x/i"))) no_member)) no_member))) (member 133 (codes "q") (scalar 137 (Str (codes "http://a/q"))) no_member)))) (member 151 (codes "@id") (scalar 157 (Str (codes "http://a/s"))) (member 170 (codes "@type") (scalar 178 (Str (codes "T"))) (member 182 (codes "p") (object 186 (member 187 (codes "i") (object 191 (member 192 (codes "@id") (scalar 198 (Str (codes "http://a/o"))) no_member)) (member 212 (codes "q") (scalar 216 (Str (codes "x"))) no_member))) no_member))))) (codes "<http://a/s> <http://a/p> _:jlb186 .\n" ∷ codes "<http://a/s> <http://www.w3.org/1999/02/22-rdf-syntax-ns#type> <http://a/T> .\n" ∷ codes "_:jlb186 <http://a/q> \"x\" .\n" ∷ codes "_:jlb186 <http://x/i> <http://a/o> .\n" ∷ []) ≡ true
+unfolding walked
+row_49 = refl
+
+-- the same document
+row_50 : walked (settings Streaming None []) (object 0 (member 1 (codes "@context") (object 12 (member 13 (codes "T") (object 17 (member 18 (codes "@id") (scalar 24 (Str (codes "http://a/T"))) (member 37 (codes "@context") (object 48 (member 49 (codes "i") (scalar 53 (Str (codes "@id"))) (member 59 (codes "q") (scalar 63 (Str (codes "http://t/q"))) no_member))) no_member))) (member 78 (codes "p") (object 82 (member 83 (codes "@id") (scalar 89 (Str (codes "http://a/p"))) (member 102 (codes "@context") (object 113 (member 114 (codes "i") (scalar 118 (Str (codes "http://x/i"))) no_member)) no_member))) (member 133 (codes "q") (scalar 137 (Str (codes "http://a/q"))) no_member)))) (member 151 (codes "@id") (scalar 157 (Str (codes "http://a/s"))) (member 170 (codes "@type") (scalar 178 (Str (codes "T"))) (member 182 (codes "p") (object 186 (member 187 (codes "i") (object 191 (member 192 (codes "@id") (scalar 198 (Str (codes "http://a/o"))) no_member)) (member 212 (codes "q") (scalar 216 (Str (codes "x"))) no_member))) no_member))))) (codes "<http://a/s> <http://a/p> _:jlb186 .\n" ∷ codes "<http://a/s> <http://www.w3.org/1999/02/22-rdf-syntax-ns#type> <http://a/T> .\n" ∷ codes "_:jlb186 <http://t/q> \"x\" .\n" ∷ codes "_:jlb186 <http://x/i> <http://a/o> .\n" ∷ []) ≡ true
+unfolding walked
+row_50 = refl

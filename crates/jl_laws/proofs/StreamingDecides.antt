@@ -15,7 +15,7 @@ use Rattle.jl_defs.specs.ValueObjects.{all_with}
 use Rattle.jl_defs.specs.Kept.{own_member, entries}
 use Rattle.jl_defs.specs.MemberFaults.{nothing_seen, closing_faults}
 use Rattle.jl_defs.specs.Faults.{decided_faults, place, value_faults, members_faults}
-use Rattle.jl_laws.proofs.Bools.{true-false, picked-false}
+use Rattle.jl_laws.proofs.Bools.{or-left, true-false, picked-false}
 use Rattle.jl_laws.proofs.MembersOnce.{append-empty, clear}
 use Rattle.jl_laws.proofs.Decided.{streaming}
 use Rattle.jl_laws.proofs.Reorder.{put_if, look-name, kinds-filter, kinds-first}
@@ -108,10 +108,6 @@ kinds-none b (member a n v rest) c h =
 kind-leads : (k : Key) → is_kind k ≡ true → is_leading k ≡ true
 kind-leads kind e = refl
 kind-leads k e = absurd (true-false (sym e))
-
-or-left : (b d : Bool) → b ≡ true → (b || d) ≡ true
-or-left true d e = refl
-or-left false d e = absurd (true-false (sym e))
 
 look-ends : (b : Context) (n : Text) (v : Tree) → is_in_prelude (b ∷ []) n v ≡ false → is_kind (key_of b n) ≡ true → look_at n v ≡ look_at_key n
 look-ends b n (scalar at v) e k = absurd (true-false (sym (or-left (leads_in n b) false (kind-leads (key_of b n) k)) ∙ e))

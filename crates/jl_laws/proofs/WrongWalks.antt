@@ -23,8 +23,6 @@ use Rattle.jl_defs.proofs.RowWords.{settings, is_fault_among, faults_are_among, 
 use Rattle.jl_laws.specs.Laws.{SaysDatasetBy, MembersMoveBy, FaultsStayBy}
 use Rattle.jl_laws.specs.Says.{walk, says, root_spot}
 use Rattle.jl_laws.specs.Reordering.{Reordered}
-use Rattle.jl_laws.specs.Stage.{HasPlainKeys}
-use Rattle.jl_laws.proofs.PlainStage.{plain-in-stage}
 
 -- ---- a part of a list, tested by the lines of its quads
 
@@ -140,7 +138,7 @@ streaming_order : Settings
 streaming_order = settings Streaming None []
 
 hurried_is_wrong : FaultsStayBy hurried → ⊥
-unfolding defined walk hurried started rest streaming_order Extends HasPlainKeys
+unfolding defined walk hurried started rest streaming_order Extends
 hurried_is_wrong h =
     no_faults_part (faults streaming_order (object 0 started)) (faults streaming_order (object 0 (then_members started rest)))
-    (h streaming_order (in_object 0 started []) (object 0 (then_members started rest)) refl (plain-in-stage streaming_order (object 0 (then_members started rest)) (refl, tt, (refl, tt, (refl, tt, tt)))) (rest, refl)) refl
+    (h streaming_order (in_object 0 started []) (object 0 (then_members started rest)) refl (rest, refl)) refl

@@ -12,12 +12,11 @@ use Rattle.jl_defs.specs.OpenTree.{Open, Extends}
 use Rattle.jl_defs.specs.Reported.{reported}
 use Rattle.jl_laws.specs.Spots.{Spot}
 use Rattle.jl_laws.specs.Says.{says, root_spot}
-use Rattle.jl_laws.specs.Stage.{IsWithinStage, HasPlainKeys}
 use Rattle.jl_laws.specs.Reordering.{Reordered, HasNamesOnce, IsFaultless, IsFree}
 
 -- in streaming order a fault that is reported for what has been read is a fault of every tree that goes on from it
 abbrev pub FaultsStayBy : (Settings → Open → List Fault) → Type 0
-FaultsStayBy reports = (s : Settings) (o : Open) (t : Tree) → s.order ≡ Streaming → IsWithinStage s t → Extends o t → IsWithin (reports s o) (faults s t)
+FaultsStayBy reports = (s : Settings) (o : Open) (t : Tree) → s.order ≡ Streaming → Extends o t → IsWithin (reports s o) (faults s t)
 
 abbrev pub FaultsStay : Type 0
 FaultsStay = FaultsStayBy reported
@@ -37,7 +36,3 @@ MembersMoveBy walk =
 
 abbrev pub MembersMove : Type 0
 MembersMove = MembersMoveBy says
-
--- a document without contexts, and without nested, reversed and included members, is within the stage
-abbrev pub PlainIsWithin : Type 0
-PlainIsWithin = (s : Settings) (t : Tree) → HasPlainKeys t → IsWithinStage s t

@@ -1,5 +1,4 @@
 pub mod Spots
 pub mod Says
-pub mod Stage
 pub mod Reordering
 pub mod Laws

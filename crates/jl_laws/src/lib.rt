@@ -1,10 +1,10 @@
 //! Laws of the definitions of reading JSON-LD.
 #![tactic(auto)]
 
-ghost use Rattle.jl_laws.specs.Laws.{FaultsStay, MembersMove, PlainIsWithin, SaysDataset};
+ghost use Rattle.jl_laws.specs.Laws.{FaultsStay, MembersMove, SaysDataset};
 
 /// A fault that is reported for what has been read of a document is a fault of every document that goes on from it, in
-/// streaming order and for the forms of the stage.
+/// streaming order.
 pub fn law_faults()
     ensures { FaultsStay }
 {}
@@ -19,9 +19,4 @@ pub fn law_frames()
 /// object, in streaming order for those that can't go back to a context before and aren't read as graphs.
 pub fn law_members()
     ensures { MembersMove }
-{}
-
-/// A document with no key `@context`, `@nest`, `@reverse` or `@included` is within the stage of `law_faults`.
-pub fn law_stage()
-    ensures { PlainIsWithin }
 {}
