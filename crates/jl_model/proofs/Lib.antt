@@ -1,5 +1,10 @@
 mod LineRows
 pub mod LinePlaces
+pub mod LineFollows
+pub mod LineCuts
+pub mod LineDots
+mod BadLineRows
+mod LineStarts
 pub mod Subtags
 pub mod LastByte
 pub mod JsonLists

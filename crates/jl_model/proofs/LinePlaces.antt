@@ -1,9 +1,8 @@
 -- Bytes are lines of quads, or have at most one bad line, and never both.
-use Rattle.std.proofs.Common.{inl, inr, ◌⊎◌, ◌≡◌, ℕ, suc, List, [], ◌∷◌, ◌++◌, length, refl, sym, ap, ◌∙◌, subst, arith, append_assoc, append-nil}
+use Rattle.std.proofs.Common.{inl, inr, ◌⊎◌, ◌≡◌, ℕ, List, [], ◌∷◌, ◌++◌, refl, sym, ap, ◌∙◌, subst, arith, append_assoc, append-nil}
 use Rattle.jl_model.specs.Parts.{Parts}
-use Rattle.jl_model.specs.LineTokens.{bytes_of}
 use Rattle.jl_model.specs.LineGrammar.{QuadsOf, BeginsLines}
-use Rattle.jl_model.specs.LineFaults.{GoesOn, StopsAt, BreaksLine, EndsInLine, BadLine}
+use Rattle.jl_model.specs.LineFaults.{StopsAt, BadLine}
 
 head_is : (c d : ℕ) (cs ds : List ℕ) → c ∷ cs ≡ d ∷ ds → c ≡ d
 head_is c d cs ds e = cc

@@ -1,14 +1,13 @@
 -- Rows of the reading of N-Quads: documents with their quads, tokens that are refused, and where lines stop.
-use Rattle.std.specs.Prelude.{◌≡◌, ℕ, zero, suc, Bool, true, false, List, [], ◌∷◌, ◌++◌, length, map, Option, Some, None, IsTrue, codes, refl}
+use Rattle.std.specs.Prelude.{◌≡◌, ℕ, true, false, List, [], ◌∷◌, ◌++◌, length, map, Option, Some, None, IsTrue, codes, refl}
 use lib.Utf8.{encode, encodes}
 use Rattle.jl_model.specs.Parts.{Parts, parts_of, rdf_lang_string, xsd_string}
 use Rattle.jl_model.specs.Ren.{ren}
 use Rattle.jl_model.specs.JsonStrings.{hex_value}
 use Rattle.jl_model.specs.LineTokens.{Written, itself, letter, four, eight, LineToken, bytes_of, is_row, is_token}
 use Rattle.jl_model.specs.LineTokens as tokens
-use Rattle.jl_model.specs.LineGrammar.{Name, iri, label, Object, named, literal, Suffix, plain, typed, tagged, Graph, Statement, Line, Document, last, ended, document_tokens, document_quads, IsDocument, QuadsOf, BeginsLines}
+use Rattle.jl_model.specs.LineGrammar.{Name, iri, label, Object, named, literal, Suffix, plain, typed, tagged, Graph, Statement, Line, Document, last, ended, document_tokens, document_quads, QuadsOf, BeginsLines}
 use Rattle.jl_model.specs.LineFaults.{GoesOn}
-use Rattle.jl_model.specs.declared.terms.Lit.{Lit}
 use Rattle.jl_model.specs.declared.terms.Term.{Term}
 use Rattle.jl_model.specs.declared.terms.Term.TheVariants.{Iri, Blank, Literal}
 
@@ -20,7 +19,7 @@ abbrev space : List ℕ
 space = codes " "
 
 -- `<a:p>`
-abbrev p : List Written
+abbrev pub p : List Written
 p = chars (codes "a:p")
 
 abbrev statement : Name → Object → Option Graph → Statement
@@ -224,30 +223,30 @@ row_32 : is_token (tokens.tag (codes "en-")) ≡ false
 row_32 = refl
 
 -- the byte c stands behind bytes that begin a text; these tokens, behind which the place is, go on to a text
-record Stands (front : List ℕ) (c : ℕ) (place : ℕ) : Type 0 where
-  begins : BeginsLines front
-  row : List LineToken
-  goes_on : GoesOn (front ++ c ∷ []) row
-  place_is : place ≡ length (bytes_of row)
+pub record Stands (front : List ℕ) (c : ℕ) (place : ℕ) : Type 0 where
+  pub begins : BeginsLines front
+  pub row : List LineToken
+  pub goes_on : GoesOn (front ++ c ∷ []) row
+  pub place_is : place ≡ length (bytes_of row)
 
 -- bytes begin a text that a derivation spells
-begun : (front more : List ℕ) (d : Document) → front ++ more ≡ bytes_of (document_tokens d) → IsTrue (is_row (document_tokens d) []) → BeginsLines front
+pub begun : (front more : List ℕ) (d : Document) → front ++ more ≡ bytes_of (document_tokens d) → IsTrue (is_row (document_tokens d) []) → BeginsLines front
 begun front more d spelled whole = (more, document_quads d, record { row = document_tokens d; document = d; spelled = spelled; of_grammar = record { whole = whole; derived = refl }; quads_are = refl })
 
-abbrev s : LineToken
+abbrev pub s : LineToken
 s = tokens.iri (chars (codes "a:s"))
 
-abbrev gap : LineToken
+abbrev pub gap : LineToken
 gap = tokens.blank 32
 
 -- the tokens of `<a:s> <a:p>` and a space
-abbrev up_to_object : List LineToken
+abbrev pub up_to_object : List LineToken
 up_to_object = s ∷ gap ∷ tokens.iri p ∷ gap ∷ []
 
-abbrev x : LineToken
+abbrev pub x : LineToken
 x = tokens.string (chars (codes "x"))
 
-abbrev x_line : Suffix → Document
+abbrev pub x_line : Suffix → Document
 x_line suffix = last (record {
   blanks = [];
   statement = Some (record { subject = iri (chars (codes "a:s")); after_subject = space; predicate = p; after_predicate = space; object = literal (chars (codes "x")) suffix; after_object = []; graph = None; after_dot = [] });
@@ -255,7 +254,7 @@ x_line suffix = last (record {
 })
 
 -- white space before `^^`: the place is that of the `^`
-row_33 : Stands (codes "<a:s> <a:p> \"x\" ") 94 16
+pub row_33 : Stands (codes "<a:s> <a:p> \"x\" ") 94 16
 unfolding encode
 row_33 = record {
   begins = begun (codes "<a:s> <a:p> \"x\" ") (codes ".") (last (says (literal (chars (codes "x")) plain))) refl refl;
@@ -265,7 +264,7 @@ row_33 = record {
 }
 
 -- white space behind `^^`: the place is that of the space
-row_34 : Stands (codes "<a:s> <a:p> \"x\"^^") 32 17
+pub row_34 : Stands (codes "<a:s> <a:p> \"x\"^^") 32 17
 unfolding encode
 row_34 = record {
   begins = begun (codes "<a:s> <a:p> \"x\"^^") (codes "<a:d>.") (x_line (typed (chars (codes "a:d")))) refl refl;
@@ -275,7 +274,7 @@ row_34 = record {
 }
 
 -- a tag that isn't whole: the place is that of its `@`
-row_35 : Stands (codes "<a:s> <a:p> \"x\"@en-") 32 15
+pub row_35 : Stands (codes "<a:s> <a:p> \"x\"@en-") 32 15
 unfolding encode
 row_35 = record {
   begins = begun (codes "<a:s> <a:p> \"x\"@en-") (codes "a.") (x_line (tagged (codes "en-a"))) refl refl;
@@ -285,7 +284,7 @@ row_35 = record {
 }
 
 -- a label doesn't end with a dot: the place is that of the second one
-row_36 : Stands (codes "<a:s> <a:p> _:a..") 32 16
+pub row_36 : Stands (codes "<a:s> <a:p> _:a..") 32 16
 unfolding encode
 row_36 = record {
   begins = begun (codes "<a:s> <a:p> _:a..") (codes "b .") (last (says (named (label (codes "a..b"))))) refl refl;
@@ -306,7 +305,7 @@ row_36 = record {
 }
 
 -- no object: the place is that of the dot
-row_37 : Stands (codes "<a:s> <a:p> ") 46 12
+pub row_37 : Stands (codes "<a:s> <a:p> ") 46 12
 unfolding encode
 row_37 = record {
   begins = begun (codes "<a:s> <a:p> ") (codes "<a:o> .") (last (says (named (iri (chars (codes "a:o")))))) refl refl;
@@ -316,7 +315,7 @@ row_37 = record {
 }
 
 -- a byte of a comment that isn't UTF-8: the place is that of the first byte of these, not that of the `#`
-row_38 : Stands (codes "#a" ++ 195 ∷ []) 40 2
+pub row_38 : Stands (codes "#a" ++ 195 ∷ []) 40 2
 unfolding encode
 row_38 = record {
   begins = begun (codes "#a" ++ 195 ∷ []) (169 ∷ []) (last (comment_line (97 ∷ 233 ∷ []))) refl refl;
