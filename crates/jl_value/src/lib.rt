@@ -7,5 +7,7 @@ mod literals;
 mod numbers;
 #[cfg(test)]
 mod tests;
+mod valued;
 
 pub use literals::{ValueStop, literal_of};
+pub use valued::Valued;

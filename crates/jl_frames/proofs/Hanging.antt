@@ -1,0 +1,136 @@
+-- The quads of a node, by its subject, its graph and the object.
+use Rattle.std.proofs.Common.{◌≡◌, refl, sym, ◌∙◌, ap, subst, Bool, true, false, ◌&&◌, List, [], ◌∷◌, inl, inr, Option, Some, None}
+use Rattle.std.proofs.lemmas.Bool.{cases_Bool}
+use Rattle.std.specs.Str.{is_utf8}
+use Rattle.jl_model.specs.Parts.{Parts, parts_of}
+use Rattle.jl_model.specs.declared.terms.Lit.{Lit}
+use Rattle.jl_model.specs.declared.terms.Term.{Term}
+use Rattle.jl_model.specs.declared.terms.Term.TheVariants.{Iri, Blank, Literal}
+use Rattle.jl_model.specs.declared.graph_scopes.GraphScope.{GraphScope}
+use Rattle.jl_model.specs.declared.graph_scopes.GraphScope.TheVariants.{LeftOut, Main, Named}
+use Rattle.jl_defs.specs.Texts.{Text, is_iri}
+use Rattle.jl_defs.specs.Dataset.{Head, link, is_subject, quad_in, turned, with_terms, term_of_literal}
+use Rattle.jl_frames.specs.declared.hooks.Hook.{Hook}
+use Rattle.jl_frames.specs.declared.nodes.Node.{Node}
+use Rattle.jl_frames.specs.Formed.{is_node, is_language, is_lit, is_object, is_graph, is_formed, formed}
+use Rattle.jl_frames.specs.declared.nodes.Pending.{Pending}
+use Rattle.jl_frames.specs.declared.nodes.Pending.TheVariants as pending
+use Rattle.jl_frames.specs.Nodes.{hang, hang_under, hang_pending, hooked}
+
+abbrev pub head_in : Option Term → Text → GraphScope → Head
+head_in s p scope = record { subject = s; predicate = p; scope = scope; forward = true }
+
+nothing-linked : (b : Bool) → formed (elim b [ true ↦ [] | false ↦ [] ]) ≡ []
+nothing-linked true = refl
+nothing-linked false = refl
+
+no-subject : (p : Text) (scope : GraphScope) (o : Option Term) → formed (link (head_in None p scope) o) ≡ []
+unfolding link
+no-subject p scope o = nothing-linked (is_iri p)
+
+no-object : (s : Option Term) (p : Text) (scope : GraphScope) → formed (link (head_in s p scope) None) ≡ []
+unfolding link
+no-object None p scope = nothing-linked (is_iri p)
+no-object (Some s) p scope = nothing-linked (is_iri p)
+
+pub hooked_nobody : (n : Node) (p : Text) (o : Option Term) → n.subject ≡ None → hooked None o ≡ hang n p o
+unfolding hang
+hooked_nobody n p o e = sym (ap (λ s. formed (link (head_in s p n.scope) o)) e ∙ no-subject p n.scope o)
+
+pub hooked_node : (n : Node) (p : Text) (o : Option Term) (s : Term) → n.subject ≡ Some s → hooked (Some (record { subject = s; predicate = p; scope = n.scope })) o ≡ hang n p o
+unfolding hang
+hooked_node n p o s e = sym (ap (λ x. formed (link (head_in x p n.scope) o)) e)
+
+-- a quad with a predicate and a subject that may be none
+abbrev linked_by : Bool → Bool → List Parts → List Parts
+linked_by i s q = elim i [ true ↦ elim s [ true ↦ q | false ↦ [] ] | false ↦ [] ]
+
+abbrev test_of : Term → Text → Term → Option Term → Bool
+test_of s p o g = is_node s && (is_iri p && (is_object o && is_graph g))
+
+by-tests : (n i s r : Bool) (q : Parts) → is_formed q ≡ (n && (i && r)) → (n ≡ true → s ≡ true) → formed (linked_by i s (q ∷ [])) ≡ formed (q ∷ [])
+by-tests true true true r q e h = refl
+by-tests true true false r q e h = absurd (let no = h refl in cc)
+by-tests true false s r q e h = sym (rw e refl)
+by-tests false true true r q e h = refl
+by-tests false true false r q e h = sym (rw e refl)
+by-tests false false s r q e h = sym (rw e refl)
+
+node-subject : (t : Term) → is_node t ≡ true → is_subject t ≡ true
+node-subject (Iri iri) e = refl
+node-subject (Blank label) e = refl
+node-subject (Literal lit) e = absurd cc
+
+whole : (s : Term) (p : Text) (o : Term) (g : Option Term) → formed (linked_by (is_iri p) (is_subject s) (parts_of s p o g ∷ [])) ≡ formed (parts_of s p o g ∷ [])
+unfolding is_formed
+whole s p o g = by-tests (is_node s) (is_iri p) (is_subject s) (is_object o && is_graph g) (parts_of s p o g) refl (node-subject s)
+
+left-out : (i s : Bool) → formed (linked_by i s []) ≡ []
+left-out true true = refl
+left-out true false = refl
+left-out false s = refl
+
+-- what a graph makes of a quad
+abbrev pub scoped : GraphScope → Term → Text → Term → List Parts
+scoped scope s p o = formed (quad_in scope s p o)
+
+pub hooked_scope : (s : Term) (p : Text) (scope : GraphScope) (o : Term) → hooked (Some (record { subject = s; predicate = p; scope = scope })) (Some o) ≡ scoped scope s p o
+unfolding link
+hooked_scope s p LeftOut o = left-out (is_iri p) (is_subject s)
+hooked_scope s p Main o = whole s p o None
+hooked_scope s p (Named g) o = whole s p o (Some g)
+
+-- a literal that isn't well-formed is left out either way
+not-lit : (u d l : Bool) → (d && u) ≡ false → (u && (d && l)) ≡ false
+not-lit true true l e = absurd cc
+not-lit true false l e = refl
+not-lit false d l e = refl
+
+object-out : (n i o g : Bool) → o ≡ false → (n && (i && (o && g))) ≡ false
+object-out true true true g e = absurd cc
+object-out true true false g e = refl
+object-out true false o g e = refl
+object-out false i o g e = refl
+
+literal-out : (s : Term) (p : Text) (scope : GraphScope) (lit : Lit) → (is_iri lit.datatype && is_utf8 lit.text) ≡ false → scoped scope s p (Literal lit) ≡ []
+unfolding is_formed
+literal-out s p LeftOut lit e = refl
+literal-out s p Main lit e = rw (object-out (is_node s) (is_iri p) (is_lit lit) true (not-lit (is_utf8 lit.text) (is_iri lit.datatype) (is_language lit.datatype lit.language) e)) refl
+literal-out s p (Named g) lit e = rw (object-out (is_node s) (is_iri p) (is_lit lit) (is_node g) (not-lit (is_utf8 lit.text) (is_iri lit.datatype) (is_language lit.datatype lit.language) e)) refl
+
+literal-linked : (s : Option Term) (p : Text) (scope : GraphScope) (lit : Lit) → formed (link (head_in s p scope) (Some (Literal lit))) ≡ formed (link (head_in s p scope) (term_of_literal lit))
+literal-linked None p scope lit = no-subject p scope (Some (Literal lit)) ∙ sym (no-subject p scope (term_of_literal lit))
+literal-linked (Some s) p scope lit = elim (cases_Bool (is_iri lit.datatype && is_utf8 lit.text)) [
+  | inl e ↦ ap (λ b. formed (link (head_in (Some s) p scope) (elim b [ true ↦ Some (Literal lit) | false ↦ None ]))) (sym e)
+  | inr e ↦
+      hooked_scope s p scope (Literal lit) ∙ literal-out s p scope lit e
+      ∙ sym (ap (λ b. formed (link (head_in (Some s) p scope) (elim b [ true ↦ Some (Literal lit) | false ↦ None ]))) e ∙ no-object (Some s) p scope)
+]
+
+under-none : (w : Pending) (n : Node) → [] ≡ hang_under w n None
+unfolding hang
+under-none (pending.Property p) n = sym (no-object n.subject p n.scope)
+under-none w n = refl
+
+pub pending_none : (n : Node) (o : Option Term) → None ≡ o → [] ≡ hang_pending n o
+pending_none n o e = subst (λ x. [] ≡ hang_pending n x) e (under-none n.pending n)
+
+pub hang_none : (n : Node) (p : Text) (o : Option Term) → None ≡ o → [] ≡ hang n p o
+unfolding hang
+hang_none n p o e = subst (λ x. [] ≡ hang n p x) e (sym (no-object n.subject p n.scope))
+
+under-literal : (w : Pending) (n : Node) (lit : Lit) → hang_under w n (Some (Literal lit)) ≡ hang_under w n (term_of_literal lit)
+unfolding hang
+under-literal (pending.Property p) n lit = literal-linked n.subject p n.scope lit
+under-literal w n lit = refl
+
+pub pending_literal : (n : Node) (lit : Lit) → hang_pending n (Some (Literal lit)) ≡ hang_pending n (term_of_literal lit)
+pending_literal n lit = under-literal n.pending n lit
+
+pub hooked_none : (h : Option Hook) → [] ≡ hooked h None
+hooked_none None = refl
+hooked_none (Some h) = sym (no-object (Some h.subject) h.predicate h.scope)
+
+pub hooked_literal : (h : Option Hook) (lit : Lit) → hooked h (Some (Literal lit)) ≡ hooked h (term_of_literal lit)
+hooked_literal None lit = refl
+hooked_literal (Some h) lit = literal-linked (Some h.subject) h.predicate h.scope lit

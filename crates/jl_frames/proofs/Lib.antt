@@ -1,0 +1,6 @@
+pub mod KeyMeanings
+pub mod Quads
+pub mod Hanging
+pub mod TextTerms
+mod RowWords
+mod MachineRows

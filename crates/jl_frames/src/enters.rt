@@ -1,0 +1,152 @@
+//! Containers that open.
+ghost use Rattle.std.specs.Prelude.{◌≡◌, ◌∷◌, Ok, None, Some, IfOk, IfErr, OnErr, Option};
+ghost use Rattle.jl_frames.specs.Answers.{HasCause};
+ghost use Rattle.jl_frames.specs.Machine as spec;
+ghost use Rattle.jl_frames.specs.Nodes.{opened};
+ghost use Rattle.jl_frames.specs.declared.nodes.Node.{Node as SpecNode};
+
+use super::emits::Emits;
+use super::facts::Frame;
+use super::keywords::Keyword;
+use super::nodes::{Node, Pending, wrong_form};
+use super::opens::Open;
+use super::roles::Role;
+use super::states::{FrameStop, StackState};
+
+impl StackState {
+    /// A container opens.
+    pub(crate) fn on_enter(&mut self, frame: Frame) -> Result<Emits, FrameStop>
+        requires live { self.old.stopped ≡ None }
+        ensures ok { IfOk result (λ quads. spec.on_enter frame self.old.node self.old.opens ≡ Ok (quads, self.new)) }
+        ensures err { IfErr result (λ stop. HasCause stop (spec.on_enter frame self.old.node self.old.opens)) }
+        ensures kept { OnErr result (self.new ≡ self.old) }
+    {
+        if self.opens.is_in_dropped() {
+            return self.open_dropped();
+        }
+        let Some(node) = &self.node else {
+            return self.on_frame(frame);
+        };
+        match node.pending {
+            Pending::Property(_) => self.on_frame(frame),
+            Pending::Keyword { at, keyword } => self.on_types(at, keyword, frame.role),
+            Pending::Nothing | Pending::Ignored => self.open_dropped(),
+        }
+    }
+
+    fn on_frame(&mut self, frame: Frame) -> Result<Emits, FrameStop>
+        requires live { self.old.stopped ≡ None }
+        ensures ok { IfOk result (λ quads. spec.on_frame frame.role frame self.old.node self.old.opens ≡ Ok (quads, self.new)) }
+        ensures err { IfErr result (λ stop. stop ≡ FrameStop.NoMemory) }
+        ensures kept { OnErr result (self.new ≡ self.old) }
+    {
+        match frame.role {
+            Role::Object => self.open_object(frame),
+            Role::Set => self.open_array(),
+            _ => self.open_dropped(),
+        }
+    }
+
+    fn open_dropped(&mut self) -> Result<Emits, FrameStop>
+        requires live { self.old.stopped ≡ None }
+        ensures ok { IfOk result (λ quads. spec.quiet self.old.node (Open.Dropped ∷ self.old.opens) ≡ Ok (quads, self.new)) }
+        ensures err { IfErr result (λ stop. stop ≡ FrameStop.NoMemory) }
+        ensures kept { OnErr result (self.new ≡ self.old) }
+    {
+        match self.opens.push(Open::Dropped) {
+            Ok(()) => Ok(Emits::none()),
+            Err(_) => Err(FrameStop::NoMemory),
+        }
+    }
+
+    fn open_object(&mut self, frame: Frame) -> Result<Emits, FrameStop>
+        requires live { self.old.stopped ≡ None }
+        ensures ok { IfOk result (λ quads. spec.quiet (Some (opened frame)) (Open.Object self.old.node ∷ self.old.opens) ≡ Ok (quads, self.new)) }
+        ensures err { IfErr result (λ stop. stop ≡ FrameStop.NoMemory) }
+        ensures kept { OnErr result (self.new ≡ self.old) }
+    {
+        match self.opens.push(Open::Object(self.node.take())) {
+            Ok(()) => {
+                self.node = Some(Node::opened(frame));
+                Ok(Emits::none())
+            }
+            Err(back) => {
+                self.node = back.into_node();
+                Err(FrameStop::NoMemory)
+            }
+        }
+    }
+
+    fn open_array(&mut self) -> Result<Emits, FrameStop>
+        requires live { self.old.stopped ≡ None }
+        ensures ok { IfOk result (λ quads. spec.quiet (spec.all_holding self.old.node) (Open.Array ∷ self.old.opens) ≡ Ok (quads, self.new)) }
+        ensures err { IfErr result (λ stop. stop ≡ FrameStop.NoMemory) }
+        ensures kept { OnErr result (self.new ≡ self.old) }
+    {
+        match self.opens.push(Open::Array) {
+            Ok(()) => {
+                self.hold();
+                Ok(Emits::none())
+            }
+            Err(_) => Err(FrameStop::NoMemory),
+        }
+    }
+
+    /// A container opens under a keyword: only an array of types may.
+    fn on_types(&mut self, at: u64, keyword: Keyword, role: Role) -> Result<Emits, FrameStop>
+        requires live { self.old.stopped ≡ None }
+        ensures ok { IfOk result (λ quads. (n : SpecNode) → self.old.node ≡ Some n → spec.on_types (spec.opens_types keyword role (spec.in_object self.old.opens)) at keyword n self.old.opens ≡ Ok (quads, self.new)) }
+        ensures err { IfErr result (λ stop. (n : SpecNode) → HasCause stop (spec.on_types (spec.opens_types keyword role (spec.in_object self.old.opens)) at keyword n self.old.opens)) }
+        ensures kept { OnErr result (self.new ≡ self.old) }
+    {
+        if opens_types(keyword, role, self.opens.is_in_object()) {
+            self.open_types()
+        } else {
+            Err(wrong_form(keyword, at))
+        }
+    }
+
+    fn open_types(&mut self) -> Result<Emits, FrameStop>
+        requires live { self.old.stopped ≡ None }
+        ensures ok { IfOk result (λ quads. spec.quiet (spec.all_typed self.old.node) (Open.Array ∷ self.old.opens) ≡ Ok (quads, self.new)) }
+        ensures err { IfErr result (λ stop. stop ≡ FrameStop.NoMemory) }
+        ensures kept { OnErr result (self.new ≡ self.old) }
+    {
+        match self.opens.push(Open::Array) {
+            Ok(()) => {
+                self.take_types();
+                Ok(Emits::none())
+            }
+            Err(_) => Err(FrameStop::NoMemory),
+        }
+    }
+
+    fn take_types(&mut self)
+        ensures { self.new ≡ record self.old { node = spec.all_typed self.old.node } }
+    {
+        if let Some(node) = &mut self.node {
+            node.take_types();
+        }
+    }
+
+    /// A property of the innermost object gave something.
+    pub(crate) fn hold(&mut self)
+        ensures { self.new ≡ record self.old { node = spec.all_holding self.old.node } }
+    {
+        if let Some(node) = &mut self.node {
+            node.entries.property = true;
+        }
+    }
+}
+
+fn opens_types(keyword: Keyword, role: Role, in_object: bool) -> bool
+    ensures { result ≡ spec.opens_types keyword role in_object }
+{
+    match keyword {
+        Keyword::Kind => match role {
+            Role::Set => in_object,
+            _ => false,
+        },
+        _ => false,
+    }
+}

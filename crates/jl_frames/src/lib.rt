@@ -1,0 +1,32 @@
+//! The stack of open containers: what objects, arrays and value objects say, fact by fact.
+#![tactic(auto)]
+
+mod closes;
+mod emits;
+mod endings;
+mod enters;
+mod entries;
+mod facts;
+mod hooks;
+mod keywords;
+mod nodes;
+mod opens;
+mod roles;
+mod stacks;
+mod states;
+mod takes;
+mod terms;
+#[cfg(test)]
+mod tests;
+mod values;
+
+pub use emits::Emits;
+pub use entries::Entries;
+pub use facts::{Frame, Given, KeyFact, ValueFact};
+pub use keywords::Keyword;
+pub use nodes::{Node, Pending};
+pub use opens::{Open, Opens};
+pub use roles::Role;
+pub use stacks::Stack;
+pub use states::{FrameStop, StackState};
+pub use values::{Kinds, RawValue, ValueParts};

@@ -1,0 +1,117 @@
+//! The stack.
+ghost use Rattle.std.specs.Prelude.{◌≡◌, true, Ok, Err, None, Some, IfOk, IfErr, IfSome, IsErr};
+ghost use Rattle.jl_frames.specs.Answers.{HasCause, IsBuilt, after_stop, is_built_key, is_built_scalar};
+ghost use Rattle.jl_frames.specs.Machine as spec;
+
+use super::emits::Emits;
+use super::facts::{Frame, KeyFact, ValueFact};
+use super::opens::Opens;
+use super::states::{FrameStop, StackState};
+use std::alloc::Global;
+use std::marker::Model;
+
+/// The stack of open containers: it is told a document fact by fact, and gives the quads that each
+/// fact brings.
+///
+/// After a refusal each call answers it again. After want of memory the stack is as before.
+#[derive(Debug, Drop)]
+pub struct Stack {
+    state: StackState,
+}
+
+impl Model for Stack {
+    ghost use Rattle.jl_frames.specs.declared.states.StackState.{StackState};
+
+    ghost Value = { StackState };
+
+    ghost view = { λ stack. stack.state };
+}
+
+impl Stack {
+    /// A stack before the first fact. It takes no memory.
+    pub fn new(alloc: Global) -> Stack
+        ensures { result ≡ spec.start }
+    {
+        Stack {
+            state: StackState {
+                node: None,
+                opens: Opens::empty(alloc),
+                stopped: None,
+            },
+        }
+    }
+
+    /// A stack that goes on from all that another one kept: every state is one that a stack may
+    /// have. It takes no memory.
+    pub fn from_state(state: StackState) -> Option<Stack>
+        ensures { result ≡ Some state }
+    {
+        Some(Stack { state })
+    }
+
+    /// All that it keeps.
+    pub fn state(&self) -> &StackState
+        ensures { result.now ≡ self.now }
+    {
+        &self.state
+    }
+
+    /// A container opens, in one of the roles that are built.
+    #[tactic(auto, unfolding(crate::specs::Machine::enter))]
+    pub fn enter(&mut self, frame: Frame) -> Result<Emits, FrameStop>
+        requires built { IsBuilt frame.role }
+        ensures goes { IfOk result (λ quads. spec.enter frame self.old ≡ Ok (quads, self.new)) }
+        ensures stops { IfErr result (λ stop. HasCause stop (spec.enter frame self.old)) }
+        ensures after { IfErr result (λ stop. self.new ≡ after_stop stop self.old) }
+    {
+        if let Some(fault) = self.state.stopped {
+            return Err(FrameStop::Refused(fault));
+        }
+        let entered = self.state.on_enter(frame);
+        self.state.told(entered)
+    }
+
+    /// A key of the innermost object, of a form that is built.
+    #[tactic(auto, unfolding(crate::specs::Machine::key))]
+    pub fn key(&mut self, key: KeyFact) -> Result<Emits, FrameStop>
+        requires built { is_built_key key.expanded ≡ true }
+        ensures goes { IfOk result (λ quads. spec.key key self.old ≡ Ok (quads, self.new)) }
+        ensures stops { IfErr result (λ stop. HasCause stop (spec.key key self.old)) }
+        ensures after { IfErr result (λ stop. self.new ≡ after_stop stop self.old) }
+    {
+        if let Some(fault) = self.state.stopped {
+            return Err(FrameStop::Refused(fault));
+        }
+        let told = self.state.on_key(key);
+        self.state.told(told)
+    }
+
+    /// A scalar. A value object's type isn't `@json`: such objects aren't built.
+    #[tactic(auto, unfolding(crate::specs::Machine::scalar))]
+    pub fn scalar(&mut self, alloc: Global, value: ValueFact) -> Result<Emits, FrameStop>
+        requires built { is_built_scalar value.given self.old.node ≡ true }
+        ensures goes { IfOk result (λ quads. spec.scalar value self.old ≡ Ok (quads, self.new)) }
+        ensures stops { IfErr result (λ stop. HasCause stop (spec.scalar value self.old)) }
+        ensures after { IfErr result (λ stop. self.new ≡ after_stop stop self.old) }
+    {
+        if let Some(fault) = self.state.stopped {
+            return Err(FrameStop::Refused(fault));
+        }
+        let given = self.state.on_scalar(alloc, value);
+        self.state.told(given)
+    }
+
+    /// The innermost container closes.
+    #[tactic(auto, unfolding(crate::specs::Machine::close))]
+    pub fn close(&mut self, alloc: Global) -> Result<Emits, FrameStop>
+        ensures goes { IfOk result (λ quads. spec.close self.old ≡ Ok (quads, self.new)) }
+        ensures stops { IfErr result (λ stop. HasCause stop (spec.close self.old)) }
+        ensures after { IfErr result (λ stop. self.new ≡ after_stop stop self.old) }
+    {
+        if let Some(fault) = self.state.stopped {
+            return Err(FrameStop::Refused(fault));
+        }
+        let closed = self.state.on_close(alloc);
+        self.state.told(closed)
+    }
+}

@@ -1,0 +1,51 @@
+//! What a stack keeps.
+ghost use Rattle.std.specs.Prelude.{◌≡◌, OnOk, IfErr};
+ghost use Rattle.jl_frames.specs.Answers.{after_stop};
+
+use super::emits::Emits;
+use super::nodes::Node;
+use super::opens::Opens;
+use jl_model::{Fault, NoMemory};
+
+/// All that a stack keeps.
+#[derive(Debug, Drop)]
+pub struct StackState {
+    /// The innermost open object, if there is one.
+    pub node: Option<Node>,
+    /// The open containers.
+    pub opens: Opens,
+    /// The fault that it answers from now on.
+    pub stopped: Option<Fault>,
+}
+
+impl StackState {
+    /// The answer of a call. A refusal is kept, to be answered from then on.
+    pub(crate) fn told(&mut self, answer: Result<Emits, FrameStop>) -> Result<Emits, FrameStop>
+        ensures same { result ≡ answer }
+        ensures ok { OnOk result (self.new ≡ self.old) }
+        ensures err { IfErr result (λ stop. self.new ≡ after_stop stop self.old) }
+    {
+        if let Err(FrameStop::Refused(fault)) = &answer {
+            self.stopped = Some(*fault);
+        }
+        answer
+    }
+}
+
+/// Why a call gave no answer.
+#[derive(Clone, Copy, Debug, PartialEq, Eq)]
+pub enum FrameStop {
+    Refused(Fault),
+    NoMemory,
+}
+
+impl From<NoMemory> for FrameStop {
+    ghost use Rattle.std.specs.Prelude.{◌≡◌};
+    ghost use Rattle.jl_frames.specs.declared.states.FrameStop.TheVariants as stop;
+
+    ghost from_gives = { λ _ made. made ≡ stop.NoMemory };
+
+    fn from(_: NoMemory) -> Self {
+        FrameStop::NoMemory
+    }
+}
