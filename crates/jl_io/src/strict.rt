@@ -164,7 +164,9 @@ mod tests {
     use std::test::Fail;
 
     /// A port over three bytes, in pieces of one, with one pair.
-    fn port(alloc: Global, taken: u64, line: &[u8]) -> Result<StrictPort, Fail> {
+    fn port(alloc: Global, taken: u64, line: &[u8]) -> Result<StrictPort, Fail>
+        ensures { IfOk result (λ port. port.memory.ended ≡ false) }
+    {
         let mut pairs = Vec::new(alloc);
         pairs.push(Pair {
             taken,
@@ -174,10 +176,13 @@ mod tests {
     }
 
     /// Whether a second byte is given, once these bytes were put behind the first.
-    fn gives(mut port: StrictPort, put: &[u8]) -> bool {
+    fn gives(mut port: StrictPort, put: &[u8]) -> bool
+        requires { port.memory.ended ≡ false }
+    {
         let mut buf = [0u8; 4];
-        if port.take(&mut buf).is_err() {
-            return false;
+        match port.take(&mut buf) {
+            Ok(n) if n > 0 => {}
+            _ => return false,
         }
         if !put.is_empty() && port.put(put).is_err() {
             return false;
