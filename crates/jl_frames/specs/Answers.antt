@@ -20,6 +20,11 @@ abbrev pub HasCause : {A : Type 0} → FrameStop → Result A Fault → Type 0
 HasCause (stop.Refused f) step = step ≡ Err f
 HasCause stop.NoMemory step = Unit {0}
 
+-- no want of memory
+abbrev pub IsRefusal : FrameStop → Type 0
+IsRefusal (stop.Refused f) = Unit {0}
+IsRefusal stop.NoMemory = ⊥
+
 -- after a refusal the stack answers it from then on; after want of memory it is as before
 abbrev pub after_stop : FrameStop → StackState → StackState
 after_stop (stop.Refused f) s = record s { stopped = Some f }

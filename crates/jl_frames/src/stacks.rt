@@ -1,6 +1,6 @@
 //! The stack.
 ghost use Rattle.std.specs.Prelude.{◌≡◌, true, Ok, Err, None, Some, IfOk, IfErr, IfSome, IsErr};
-ghost use Rattle.jl_frames.specs.Answers.{HasCause, IsBuilt, after_stop, is_built_key, is_built_scalar};
+ghost use Rattle.jl_frames.specs.Answers.{HasCause, IsBuilt, IsRefusal, after_stop, is_built_key, is_built_scalar};
 ghost use Rattle.jl_frames.specs.Machine as spec;
 
 use super::emits::Emits;
@@ -71,12 +71,13 @@ impl Stack {
         self.state.told(entered)
     }
 
-    /// A key of the innermost object, of a form that is built.
+    /// A key of the innermost object, of a form that is built. It takes no memory.
     #[tactic(auto, unfolding(crate::specs::Machine::key))]
     pub fn key(&mut self, key: KeyFact) -> Result<Emits, FrameStop>
         requires built { is_built_key key.expanded ≡ true }
         ensures goes { IfOk result (λ quads. spec.key key self.old ≡ Ok (quads, self.new)) }
         ensures stops { IfErr result (λ stop. HasCause stop (spec.key key self.old)) }
+        ensures refusal { IfErr result (λ stop. IsRefusal stop) }
         ensures after { IfErr result (λ stop. self.new ≡ after_stop stop self.old) }
     {
         if let Some(fault) = self.state.stopped {

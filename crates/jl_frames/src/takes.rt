@@ -1,6 +1,6 @@
 //! Keys and scalars.
 ghost use Rattle.std.specs.Prelude.{◌≡◌, Ok, None, IfOk, IfErr, OnErr};
-ghost use Rattle.jl_frames.specs.Answers.{HasCause};
+ghost use Rattle.jl_frames.specs.Answers.{HasCause, IsRefusal};
 ghost use Rattle.jl_frames.specs.Machine as spec;
 
 use super::emits::Emits;
@@ -15,6 +15,7 @@ impl StackState {
         requires live { self.old.stopped ≡ None }
         ensures ok { IfOk result (λ quads. spec.on_key key self.old.node self.old.opens ≡ Ok (quads, self.new)) }
         ensures err { IfErr result (λ stop. HasCause stop (spec.on_key key self.old.node self.old.opens)) }
+        ensures refusal { IfErr result (λ stop. IsRefusal stop) }
         ensures kept { OnErr result (self.new ≡ self.old) }
     {
         if !self.opens.is_in_object() {
