@@ -18,3 +18,11 @@ mod MembersOnce
 mod StreamingDecides
 mod MembersMove
 mod WrongWalks
+mod SameStrings
+mod SameScalars
+mod Meets
+mod SameValues
+mod OpenParts
+mod OpenGoesOn
+mod FaultsStayInBytes
+mod ReportRows

@@ -1,15 +1,17 @@
 -- The laws, as statements.
-use Rattle.std.specs.Prelude.{ℕ, ◌≡◌, List}
+use Rattle.std.specs.Prelude.{ℕ, ◌≡◌, List, ◌++◌}
 use Rattle.jl_model.specs.JsonTree.{Tree, object, Members}
 use Rattle.jl_model.specs.Parts.{Parts}
 use Rattle.jl_model.specs.declared.faults.Fault.{Fault}
 use Rattle.jl_model.specs.declared.orders.Order.TheVariants.{Streaming}
 use Rattle.jl_defs.specs.Settings.{Settings}
-use Rattle.jl_defs.specs.Sets.{IsWithin, SameSet}
+use Rattle.jl_defs.specs.Sets.{Has, IsWithin, SameSet}
 use Rattle.jl_defs.specs.Dataset.{dataset}
 use Rattle.jl_defs.specs.Faults.{faults}
 use Rattle.jl_defs.specs.OpenTree.{Open, Extends}
+use Rattle.jl_defs.specs.OpenText.{ReadsAs}
 use Rattle.jl_defs.specs.Reported.{reported}
+use Rattle.jl_defs.specs.Documents.{IsReported}
 use Rattle.jl_laws.specs.Spots.{Spot}
 use Rattle.jl_laws.specs.Says.{says, root_spot}
 use Rattle.jl_laws.specs.Reordering.{Reordered, HasNamesOnce, IsFaultless, IsFree}
@@ -20,6 +22,14 @@ FaultsStayBy reports = (s : Settings) (o : Open) (t : Tree) → s.order ≡ Stre
 
 abbrev pub FaultsStay : Type 0
 FaultsStay = FaultsStayBy reported
+
+-- the same of bytes: a fault that is reported for the first bytes of a readable text is a fault of that text
+abbrev pub FaultsStayInBytesBy : (Settings → List ℕ → Fault → Type 0) → Type 0
+FaultsStayInBytesBy reports =
+    (s : Settings) (front rest : List ℕ) (f : Fault) (t : Tree) → s.order ≡ Streaming → reports s front f → ReadsAs (front ++ rest) t → Has (faults s t) f
+
+abbrev pub FaultsStayInBytes : Type 0
+FaultsStayInBytes = FaultsStayInBytesBy IsReported
 
 -- what a walk over a document says is its dataset
 abbrev pub SaysDatasetBy : (Settings → Spot → Tree → List Parts) → Type 0

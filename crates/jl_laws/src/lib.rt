@@ -1,12 +1,18 @@
 //! Laws of the definitions of reading JSON-LD.
 #![tactic(auto)]
 
-ghost use Rattle.jl_laws.specs.Laws.{FaultsStay, MembersMove, SaysDataset};
+ghost use Rattle.jl_laws.specs.Laws.{FaultsStay, FaultsStayInBytes, MembersMove, SaysDataset};
 
 /// A fault that is reported for what has been read of a document is a fault of every document that goes on from it, in
 /// streaming order.
 pub fn law_faults()
     ensures { FaultsStay }
+{}
+
+/// A fault that is reported for the first bytes of a document is a fault of every document that begins with them and can
+/// be read, in streaming order.
+pub fn law_faults_bytes()
+    ensures { FaultsStayInBytes }
 {}
 
 /// What one walk over a document says, at the root's spot, is its dataset by expansion and node map, as a set: for every
