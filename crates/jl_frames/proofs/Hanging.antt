@@ -9,7 +9,7 @@ use Rattle.jl_model.specs.declared.terms.Term.TheVariants.{Iri, Blank, Literal}
 use Rattle.jl_model.specs.declared.graph_scopes.GraphScope.{GraphScope}
 use Rattle.jl_model.specs.declared.graph_scopes.GraphScope.TheVariants.{LeftOut, Main, Named}
 use Rattle.jl_defs.specs.Texts.{Text, is_iri}
-use Rattle.jl_defs.specs.Dataset.{Head, link, is_subject, quad_in, turned, with_terms, term_of_literal}
+use Rattle.jl_defs.specs.Dataset.{Head, link, is_subject, quad_in, term_of_literal}
 use Rattle.jl_frames.specs.declared.hooks.Hook.{Hook}
 use Rattle.jl_frames.specs.declared.nodes.Node.{Node}
 use Rattle.jl_frames.specs.Formed.{is_node, is_language, is_lit, is_object, is_graph, is_formed, formed}
@@ -24,7 +24,7 @@ nothing-linked : (b : Bool) → formed (elim b [ true ↦ [] | false ↦ [] ]) �
 nothing-linked true = refl
 nothing-linked false = refl
 
-no-subject : (p : Text) (scope : GraphScope) (o : Option Term) → formed (link (head_in None p scope) o) ≡ []
+pub no-subject : (p : Text) (scope : GraphScope) (o : Option Term) → formed (link (head_in None p scope) o) ≡ []
 unfolding link
 no-subject p scope o = nothing-linked (is_iri p)
 

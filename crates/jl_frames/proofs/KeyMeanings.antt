@@ -1,12 +1,11 @@
 -- What a keyword means, by the six that mean something.
-use Rattle.std.proofs.Common.{if◌then◌else◌, ◌≡◌, refl, sym, ◌∙◌, ap, subst, Bool, true, false, inl, inr}
+use Rattle.std.proofs.Common.{if◌then◌else◌, ◌≡◌, refl, sym, subst, Bool, true, false, inl, inr}
 use Rattle.std.specs.Prelude.{codes, bytes_eq}
 use Rattle.std.proofs.lemmas.Bool.{cases_Bool}
 use Rattle.std.proofs.lemmas.Slice.Eq.{bytes_eq-Decides}
 use Rattle.jl_defs.specs.Texts.{Text}
 use Rattle.jl_defs.specs.Keys.{Key, its_context, id, kind, value, language, direction, index, graph, included, list, set, reverse, nest, other, keyword_key}
 use Rattle.jl_frames.specs.declared.keywords.Keyword.TheVariants as keyword
-use Rattle.jl_frames.specs.declared.keywords.Meaning.{Meaning}
 use Rattle.jl_frames.specs.declared.keywords.Meaning.TheVariants as meaning
 use Rattle.jl_frames.specs.Nodes.{meaning_of}
 use Rattle.jl_frames.specs.Fronts.{keyword_meaning}

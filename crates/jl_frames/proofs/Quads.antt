@@ -1,5 +1,5 @@
 -- Quads are left out where a part isn't well-formed, and the terms of texts.
-use Rattle.std.proofs.Common.{◌≡◌, refl, sym, ◌∙◌, ap, subst, ℕ, Bool, true, false, ◌&&◌, List, [], ◌∷◌, inl, inr, Option, Some, None, IsTrue, ◌↔◌, drop}
+use Rattle.std.proofs.Common.{◌≡◌, refl, sym, ◌∙◌, ap, Bool, true, false, ◌&&◌, [], ◌∷◌, inl, inr, Option, Some, None, IsTrue, ◌↔◌}
 use Rattle.std.proofs.lemmas.Bool.{cases_Bool, and_from, and_parts}
 use Rattle.std.proofs.lemmas.Str.{IsUtf8-from_is_utf8, is_utf8-from_IsUtf8}
 use Rattle.std.proofs.lemmas.Slice.Eq.{bytes_eq-Decides}
@@ -7,16 +7,11 @@ use Rattle.std.specs.Prelude.{bytes_eq}
 use Rattle.std.specs.Str.{is_utf8}
 use Rattle.jl_model.specs.Iris.{IsIri, has_iri_form}
 use Rattle.jl_model.specs.Tags.{is_language_tag}
-use Rattle.jl_model.specs.Parts.{Parts, parts_of, rdf_lang_string, IsNode, IsLanguage, IsLit, IsObject, IsGraph, AreWellFormed}
-use Rattle.jl_model.specs.Ren.{ren}
+use Rattle.jl_model.specs.Parts.{Parts, rdf_lang_string, IsNode, IsLanguage, IsLit, IsObject, IsGraph, AreWellFormed}
 use Rattle.jl_model.specs.declared.terms.Lit.{Lit}
 use Rattle.jl_model.specs.declared.terms.Term.{Term}
 use Rattle.jl_model.specs.declared.terms.Term.TheVariants.{Iri, Blank, Literal}
-use Rattle.jl_model.specs.declared.graph_scopes.GraphScope.{GraphScope}
-use Rattle.jl_model.specs.declared.graph_scopes.GraphScope.TheVariants.{LeftOut, Main, Named}
-use Rattle.jl_defs.specs.Texts.{Text, is_iri, is_blank}
-use Rattle.jl_defs.specs.NodeMap.{term_of_text}
-use Rattle.jl_defs.specs.Dataset.{link, is_subject, quad_in, term_of_literal}
+use Rattle.jl_defs.specs.Texts.{Text, is_iri}
 use Rattle.jl_frames.specs.Formed.{is_node, is_language, is_lit, is_object, is_graph, is_formed, formed}
 
 iri-is : (text : Text) → IsIri text → is_iri text ≡ true

@@ -1,5 +1,5 @@
 -- Words for rows: what the facts of a document bring, computed beside what the definitions say of it.
-use Rattle.std.specs.Prelude.{ℕ, Bool, true, false, ◌&&◌, ◌==◌, List, [], map, length, Option, Some, None}
+use Rattle.std.specs.Prelude.{Bool, true, false, ◌&&◌, ◌==◌, List, [], map, length, Option, Some, None}
 use Rattle.jl_model.specs.Codes.{code_number}
 use Rattle.jl_model.specs.JsonTree.{Tree}
 use Rattle.jl_model.specs.Lines.{line}

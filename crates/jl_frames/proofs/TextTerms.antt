@@ -1,7 +1,6 @@
 -- The terms of texts, by the tests of texts.
-use Rattle.std.proofs.Common.{◌≡◌, refl, sym, ◌∙◌, ap, ℕ, Bool, true, false, List, [], ◌∷◌, Option, Some, None, drop}
+use Rattle.std.proofs.Common.{◌≡◌, refl, sym, ◌∙◌, ap, true, false, Some, None, drop}
 use Rattle.jl_model.specs.Ren.{ren}
-use Rattle.jl_model.specs.declared.terms.Term.{Term}
 use Rattle.jl_model.specs.declared.terms.Term.TheVariants.{Iri, Blank}
 use Rattle.jl_defs.specs.Texts.{Text, is_iri, is_blank}
 use Rattle.jl_defs.specs.NodeMap.{term_of_text}

@@ -1,6 +1,5 @@
 -- What a call may answer.
-use Rattle.std.specs.Prelude.{◌≡◌, Bool, true, false, not, ◌&&◌, List, [], ◌∷◌, Option, Some, None, Result, Ok, Err, codes, bytes_eq}
-use Rattle.jl_model.specs.Parts.{Parts}
+use Rattle.std.specs.Prelude.{◌≡◌, Bool, true, false, not, ◌&&◌, List, [], ◌∷◌, Option, Some, None, Result, Err, codes, bytes_eq}
 use Rattle.jl_model.specs.declared.faults.Fault.{Fault}
 use Rattle.jl_model.specs.declared.expansions.Expanded.{Expanded}
 use Rattle.jl_model.specs.declared.expansions.Expanded.TheVariants as expanded
@@ -13,7 +12,6 @@ use Rattle.jl_frames.specs.declared.roles.Role.TheVariants as role
 use Rattle.jl_frames.specs.declared.states.FrameStop.{FrameStop}
 use Rattle.jl_frames.specs.declared.states.FrameStop.TheVariants as stop
 use Rattle.jl_frames.specs.declared.states.StackState.{StackState}
-use Rattle.jl_frames.specs.Machine.{Step}
 
 -- a refusal is the fault of the step; want of memory may come at any time
 abbrev pub HasCause : {A : Type 0} → FrameStop → Result A Fault → Type 0

@@ -5,3 +5,5 @@ pub mod Fronts
 pub mod Machine
 pub mod Answers
 pub mod Facts
+pub mod Stage
+pub mod Laws

@@ -1,6 +1,6 @@
 -- An open object: what its keys mean, and what the scalars that it takes bring. No context is known here: the texts
 -- have been expanded.
-use Rattle.std.specs.Prelude.{ℕ, Bool, true, false, ◌∷◌, List, [], Option, Some, None, Result, Ok, Err}
+use Rattle.std.specs.Prelude.{ℕ, Bool, true, false, List, [], Option, Some, None, Result, Ok, Err}
 use Rattle.jl_model.specs.Parts.{Parts}
 use Rattle.jl_model.specs.declared.scalars.Scalar.{Scalar}
 use Rattle.jl_model.specs.declared.scalars.Scalar.TheVariants.{Str}

@@ -1,7 +1,7 @@
 pub mod RowWords
 pub mod SaysRows
-mod Counting
-mod Equality
+pub mod Counting
+pub mod Equality
 mod Bools
 mod Begun
 mod Decided
