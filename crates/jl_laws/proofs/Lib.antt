@@ -2,27 +2,26 @@ pub mod RowWords
 pub mod SaysRows
 pub mod Counting
 pub mod Equality
-mod Bools
-mod Begun
-mod Decided
+pub mod Bools
+pub mod Begun
+pub mod Decided
 mod LateStays
 mod LiteralStays
 mod ItemsStay
-mod MemberStays
+pub mod MemberStays
 mod FaultsStay
-mod ItemsSay
-mod Frames
+pub mod ItemsSay
+pub mod Frames
 mod NameOrder
 mod Reorder
 mod MembersOnce
 mod StreamingDecides
 mod MembersMove
 mod WrongWalks
-mod SameStrings
 mod SameScalars
 mod Meets
 mod SameValues
-mod OpenParts
-mod OpenGoesOn
+pub mod OpenParts
+pub mod OpenGoesOn
 mod FaultsStayInBytes
 mod ReportRows

@@ -5,7 +5,7 @@ use Rattle.std.specs.List.{AllByRecursion}
 use Rattle.jl_model.specs.declared.tokens.Token.{Token}
 use Rattle.jl_model.specs.JsonText.{Then, Sign, Blanks, IsBlank, KeyText, Inside}
 use Rattle.jl_defs.specs.OpenText.{Language}
-use Rattle.jl_laws.proofs.SameStrings.{head-is, tail-is, strings-same}
+use Rattle.jl_model.proofs.SameStrings.{head-is, tail-is, strings-same}
 use Rattle.jl_laws.proofs.SameScalars.{First, firsts-meet}
 
 -- a text of the one language, and a text of the other that goes on from it by `rest`

@@ -5,7 +5,7 @@ use Rattle.jl_model.specs.declared.scalars.Scalar.{Scalar}
 use Rattle.jl_model.specs.declared.scalars.Scalar.TheVariants.{Null, Bool as boolean, Number, Str}
 use Rattle.jl_model.specs.JsonNumbers.{Joined, IsDigit, Digits, SomeDigits, Minus, Whole, Fraction, Signed, Exponent, IsNumber}
 use Rattle.jl_model.specs.JsonText.{IsBlank, IsScalar}
-use Rattle.jl_laws.proofs.SameStrings.{head-is, tail-is, strings-same}
+use Rattle.jl_model.proofs.SameStrings.{head-is, tail-is, strings-same}
 
 -- ---- numbers
 

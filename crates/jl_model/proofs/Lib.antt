@@ -8,3 +8,4 @@ mod LineStarts
 pub mod Subtags
 pub mod LastByte
 pub mod JsonLists
+pub mod SameStrings

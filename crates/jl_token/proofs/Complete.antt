@@ -23,7 +23,7 @@ use Rattle.jl_token.proofs.StringMoves.{some_end}
 use Rattle.jl_token.proofs.TokenEnds.{zero_begins}
 
 -- a text of the language stands here
-abbrev Some : (ℕ → List Token → List ℕ → Type 0) → ℕ → Type 0
+abbrev pub Some : (ℕ → List Token → List ℕ → Type 0) → ℕ → Type 0
 Some L at = (us : List Token) × (t : List ℕ) × L at us t
 
 some_then : (P Q : ℕ → List Token → List ℕ → Type 0) (at : ℕ) (us : List Token) (t : List ℕ) → P at us t → Some Q (at + length t) → Some (Then P Q) at
@@ -32,7 +32,7 @@ some_then P Q at us t p q = (us ++ q.0, t ++ q.1, record { front_tokens = us; ba
 some_sign : (byte : ℕ) (made : ℕ → List Token) (K : ℕ → List Token → List ℕ → Type 0) (at : ℕ) → Some K (at + 1) → Some (Then (Sign byte made) K) at
 some_sign byte made K at q = (made at ++ q.0, byte ∷ q.1, sign_on byte made K at q.0 q.1 q.2)
 
-total : List (List ℕ) → ℕ
+pub total : List (List ℕ) → ℕ
 total [] = 0
 total (x ∷ xs) = length x + total xs
 
@@ -41,12 +41,12 @@ unfolding total
 longer_is_new [] name l = tt
 longer_is_new (old ∷ had) name l = ((λ e. omega (arith, ap length e)), longer_is_new had name (omega arith))
 
-new_name : (once : Bool) (had : List (List ℕ)) (name : List ℕ) → suc (total had) ≤ length name → IsNew once had name
+pub new_name : (once : Bool) (had : List (List ℕ)) (name : List ℕ) → suc (total had) ≤ length name → IsNew once had name
 new_name false had name l = tt
 new_name true had name l = longer_is_new had name (omega arith)
 
 module _ (once : Bool) where
-  closed : (within : List Open) (room at : ℕ) → Some (Rest once room within) at
+  pub closed : (within : List Open) (room at : ℕ) → Some (Rest once room within) at
   closed [] room at = ([], [], record { tokens_are = refl; blank = tt })
   closed (opens.Array ∷ below) room at =
       let q = (some_sign 93 (λ x. tokens.CloseArray x ∷ []) (Rest once (suc room) below) at (closed below (suc room) (at + 1))) in (q.0, q.1, more_items_in once room below at q.0 q.1 (no_blank (ItemGoes once room below) at q.0 q.1 (inl q.2)))
@@ -58,7 +58,7 @@ module _ (once : Bool) where
   value within room at =
       let q = (some_then (SomeValue once room) (Rest once room within) at (tokens.Value at (scalars.Number (48 ∷ [])) ∷ []) (48 ∷ []) (scalar at (scalars.Number (48 ∷ [])), record { place_is = refl; tokens_are = refl; spelled = (refl, zero_begins 48 [] refl (record { front = []; back = []; text_is = refl; in_one = tt; in_other = tt })) }) (closed within room (at + 1))) in (q.0, q.1, no_blank _ at q.0 q.1 q.2)
 
-  colon : (within : List Open) (room at : ℕ) → Some (ColonRest once room within) at
+  pub colon : (within : List Open) (room at : ℕ) → Some (ColonRest once room within) at
   colon within room at = let q = (some_sign 58 (λ _. []) (ValueRest once room within) at (value within room (at + 1))) in (q.0, q.1, no_blank _ at q.0 q.1 q.2)
 
   -- a name is longer than all before it

@@ -10,7 +10,7 @@ mod NewNames
 mod TokenEnds
 mod Forward
 mod Back
-mod Complete
+pub mod Complete
 mod End
 mod Utf8Moves
 mod Relaxed
@@ -28,3 +28,4 @@ pub mod MeantUtf8
 pub mod TokensUtf8
 pub mod OnePlace
 pub mod OneFault
+pub mod Ways

@@ -153,6 +153,18 @@ some_number at.Letter = (48 ∷ [], inl ((lit≤ tt, lit≤ tt), tt))
 some_number at.Sign = (48 ∷ [], ((lit≤ tt, lit≤ tt), tt))
 some_number at.Exponent = ([], tt)
 
+-- and so may another one
+pub other_number : (s : InNumber) → (t : List ℕ) × NumberEnd s t × (t ≡ (some_number s).0 → ⊥)
+unfolding some_number
+other_number at.Minus = (49 ∷ [], number_back at.Minus 49 [] (some_number at.Whole).1, λ e. omega (arith, head_is 49 48 [] [] e))
+other_number at.Zero = (46 ∷ 48 ∷ [], number_back at.Zero 46 (48 ∷ []) (some_number at.Point).1, λ e. cc)
+other_number at.Whole = (48 ∷ [], number_back at.Whole 48 [] (some_number at.Whole).1, λ e. cc)
+other_number at.Point = (49 ∷ [], number_back at.Point 49 [] (some_number at.Fraction).1, λ e. omega (arith, head_is 49 48 [] [] e))
+other_number at.Fraction = (48 ∷ [], number_back at.Fraction 48 [] (some_number at.Fraction).1, λ e. cc)
+other_number at.Letter = (49 ∷ [], number_back at.Letter 49 [] (some_number at.Exponent).1, λ e. omega (arith, head_is 49 48 [] [] e))
+other_number at.Sign = (49 ∷ [], number_back at.Sign 49 [] (some_number at.Exponent).1, λ e. omega (arith, head_is 49 48 [] [] e))
+other_number at.Exponent = (48 ∷ [], number_back at.Exponent 48 [] (some_number at.Exponent).1, λ e. cc)
+
 -- a number is whole where nothing more need follow
 pub whole_end : (s : InNumber) → is_whole s ≡ true → NumberEnd s []
 whole_end at.Zero q = put_none Fraction Exponent [] tt tt

@@ -10,13 +10,9 @@ use Rattle.jl_model.specs.TextFaults.Pieces.{none, blank, structural}
 use Rattle.jl_model.specs.TextFaults.Pieces.{string as a_string, number as a_number, word as a_word}
 use Rattle.jl_model.specs.TextFaults.Unfinished.{nothing}
 use Rattle.jl_model.specs.TextFaults.Unfinished.{string as in_string, number as in_number, word as in_word}
-use Rattle.jl_token.specs.declared.strings.InString.{InString}
-use Rattle.jl_token.specs.declared.strings.InString.TheVariants as at
-use Rattle.jl_token.specs.StringMachine.{Did, string_did, EndOf}
-use Rattle.jl_token.specs.StringMachine.Did.{bad, ends, stays}
+use Rattle.jl_model.proofs.SameStrings.{strings-same}
 use Rattle.jl_token.proofs.Heads.{head_is, tail_is}
-use Rattle.jl_token.proofs.StringMoves.{DidFollows, string_forward}
-use Rattle.jl_token.proofs.TokenEnds.{string_open, no_number, FirstOfNumber, number_first}
+use Rattle.jl_token.proofs.TokenEnds.{no_number, FirstOfNumber, number_first}
 
 -- ---- bytes that stand in no number and no word
 
@@ -183,25 +179,6 @@ bare_same (c ∷ x) (d ∷ y) r s a b f g e =
     let q : x ≡ y = bare_same x y r s a.1 b.1 f g (tail_is c d (x ++ r) (y ++ s) e) in
     ap (λ z. z ∷ x) i ∙ ap (λ z. d ∷ z) q
 
--- two strings, one of which begins as the other one
-string_same : (place : InString) (m n x y r s : List ℕ) → EndOf place m x → EndOf place n y → x ++ r ≡ y ++ s → x ≡ y
-string_same place m n [] y r s h k e = absurd (string_open place m h)
-string_same place m n (c ∷ x) [] r s h k e = absurd (string_open place n k)
-string_same place m n (c ∷ x) (d ∷ y) r s h k e =
-    let i : c ≡ d = head_is c d (x ++ r) (y ++ s) e in
-    let q : x ≡ y = go (string_did place c) (string_forward place c m x h) (string_forward place c n y (subst (λ z. EndOf place n (z ∷ y)) (sym i) k)) (λ to a b f g. string_same to a b x y r s f g (tail_is c d (x ++ r) (y ++ s) e)) in
-    ap (λ z. z ∷ x) i ∙ ap (λ z. d ∷ z) q
-  where
-    go : (did : Did) → DidFollows did m x → DidFollows did n y → ((to : InString) (a b : List ℕ) → EndOf to a x → EndOf to b y → x ≡ y) → x ≡ y
-    go bad f g again = absurd f
-    go ends f g again = f.1 ∙ sym g.1
-    go (stays bytes to) f g again = again to f.0 g.0 f.2 g.2
-
-strings_same : (m n x y r s : List ℕ) → IsString m x → IsString n y → x ++ r ≡ y ++ s → x ≡ y
-strings_same m n x y r s (a, i, h) (b, j, k) e =
-    let f : 34 ∷ (a ++ r) ≡ 34 ∷ (b ++ s) = ap (λ z. z ++ r) (sym i) ∙ e ∙ ap (λ z. z ++ s) j in
-    i ∙ ap (λ z. 34 ∷ z) (string_same at.Plain m n a b r s h k (tail_is 34 34 (a ++ r) (b ++ s) f)) ∙ sym j
-
 pieces_bare : (x : List ℕ) → Piece true x → AllBare x
 pieces_bare x (inl h) = number_bare x h
 pieces_bare x (inr h) = word_bare x h
@@ -225,7 +202,7 @@ same_piece false true x y r s p q f g e = let m = firsts_meet false true x y r s
 same_piece false false x y r s (inl (c, i, o)) (inl (d, j, u)) f g e = (refl, i ∙ ap (λ z. z ∷ []) (head_is c d r s (ap (λ z. z ++ r) (sym i) ∙ e ∙ ap (λ z. z ++ s) j)) ∙ sym j)
 same_piece false false x y r s (inl (c, i, o)) (inr (n, k)) f g e = absurd (sign_string c n x y r s o i k e)
 same_piece false false x y r s (inr (m, h)) (inl (d, j, u)) f g e = absurd (sign_string d m y x s r u j h (sym e))
-same_piece false false x y r s (inr (m, h)) (inr (n, k)) f g e = (refl, strings_same m n x y r s h k e)
+same_piece false false x y r s (inr (m, h)) (inr (n, k)) f g e = (refl, (strings-same m n x y r s h k e).1)
 
 -- ---- an unfinished token holds no whole one
 
@@ -279,7 +256,7 @@ string_whole text behind m false piece rest h n (inl (c, i, o)) e =
     sign_string c m piece (text ++ behind) (rest ++ behind) [] o i h q
 string_whole text behind m false piece rest h n (inr (k, s)) e =
     let q : (text ++ behind) ++ [] ≡ piece ++ (rest ++ behind) = append-nil (text ++ behind) ∙ ap (λ x. x ++ behind) e ∙ append_assoc piece rest behind in
-    let i : text ++ behind ≡ piece = strings_same m k (text ++ behind) piece [] (rest ++ behind) h s q in
+    let i : text ++ behind ≡ piece = (strings-same m k (text ++ behind) piece [] (rest ++ behind) h s q).1 in
     let j : behind ≡ [] = no_length behind (omega (arith, ap length i, length-append text behind, ap length e, length-append piece rest)) in
     n k (subst (IsString k) (sym i ∙ ap (λ x. text ++ x) j ∙ append-nil text) s)
   where

@@ -88,6 +88,14 @@ impl Lexer {
         &self.state
     }
 
+    /// The place of the next byte, as far as one may stand there. It takes no memory.
+    pub fn place(&self) -> u64
+        ensures place { result ≡ self.now.reading.at }
+        ensures formed { IsFormed self.now }
+    {
+        self.state.reading.at
+    }
+
     /// One byte, whose tokens keep their text in the state.
     fn take(&mut self, alloc: Global, byte: u8) -> Result<Signs, LexStop>
         ensures moves { IfOk result (λ signs. machine.moved true 256 self.old.reading byte ≡ Ok (told signs self.old.reading.at self.new.reading, self.new.reading)) }
