@@ -1,5 +1,6 @@
 -- Node map generation (JSON-LD 1.1 API, section 7.2), without the check of indexes: what each node says in which graph.
-use Rattle.std.specs.Prelude.{ℕ, Bool, true, false, List, [], ◌∷◌, ◌++◌, Option, Some, None, codes, decimal, drop}
+use Rattle.std.specs.Prelude.{ℕ, Bool, true, false, ◌&&◌, List, [], ◌∷◌, ◌++◌, Option, Some, None, codes, decimal, drop}
+use Rattle.std.specs.Str.{is_utf8}
 use Rattle.jl_model.specs.Ren.{ren}
 use Rattle.jl_model.specs.declared.terms.Term.{Term}
 use Rattle.jl_model.specs.declared.terms.Term.TheVariants.{Iri, Blank}
@@ -18,12 +19,12 @@ cell_label at = codes "jll" ++ decimal at
 abbrev pub graph_label : ℕ → Text
 graph_label at = codes "jlg" ++ decimal at
 
--- the term of a text: an IRI, or a blank node whose label is renamed; any other text has none
+-- the term of a text: an IRI, or a blank node of UTF-8 whose label is renamed; any other text has none
 unfoldable pub term_of_text : Text → Option Term
 term_of_text text =
     elim (is_iri text) [
       | true ↦ Some (Iri text)
-      | false ↦ elim (is_blank text) [ true ↦ Some (Blank (ren (drop 2 text))) | false ↦ None ]
+      | false ↦ elim (is_blank text && is_utf8 text) [ true ↦ Some (Blank (ren (drop 2 text))) | false ↦ None ]
     ]
 
 -- the term of a node

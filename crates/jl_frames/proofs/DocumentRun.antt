@@ -142,7 +142,7 @@ items-step f s x rest vg ig c w k more st inn l b e =
       ap (λ z. z.1) said ∙ r.1,
     )
 
-enters-array : (f : Parts → ℕ) (w : Where) (at : ℕ) (k : List Open) (rest : List Fact) → in_dropped k ≡ false →
+pub enters-array : (f : Parts → ℕ) (w : Where) (at : ℕ) (k : List Open) (rest : List Fact) → in_dropped k ≡ false →
     Leads f 0 (enters (plain_frame role.Set at) ∷ rest) (state (node_at w) k) rest (state (node_at (held_by true w)) (opens.Array ∷ k))
 unfolding step machine.enter
 enters-array f (outside r) at k rest d = leads-step f (enters (plain_frame role.Set at)) [] _ _ rest (ap (λ b. machine.enter_in b (plain_frame role.Set at) (node_at (outside r)) k) d)
@@ -152,7 +152,7 @@ closes-array : (f : Parts → ℕ) (n : Option Node) (k : List Open) (more : Lis
 unfolding step machine.close
 closes-array f n k more = leads-step f closes [] (state n (opens.Array ∷ k)) (complete n k) more refl
 
-still-held : (n : Node) (iri name : Text) (g : Bool) → node_at (held_by g (held_by true (within n iri name))) ≡ node_at (held_by true (within n iri name))
+pub still-held : (n : Node) (iri name : Text) (g : Bool) → node_at (held_by g (held_by true (within n iri name))) ≡ node_at (held_by true (within n iri name))
 still-held n iri name true = refl
 still-held n iri name false = refl
 

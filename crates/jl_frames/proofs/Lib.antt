@@ -4,7 +4,10 @@ pub mod Hanging
 pub mod TextTerms
 mod RowWords
 mod MachineRows
+mod StreamWords
+mod StreamRows
 pub mod Runs
+pub mod Telling
 pub mod Marks
 pub mod EntryMarks
 pub mod Ends
@@ -20,3 +23,25 @@ pub mod Silence
 pub mod ObjectRun
 pub mod ObjectEnds
 pub mod DocumentRun
+pub mod OneContext
+pub mod LaterKeys
+pub mod JsonInput
+pub mod Shown
+pub mod StreamBuilt
+pub mod Lates
+pub mod StreamStops
+pub mod KeywordStops
+pub mod MemberParts
+pub mod KeyStops
+pub mod ShownFrames
+pub mod SameFacts
+pub mod ClosingStops
+pub mod StreamSteps
+pub mod MembersStop
+pub mod BrokenStops
+pub mod ObjectSums
+pub mod ObjectStops
+pub mod StreamRun
+pub mod FormedTerms
+pub mod FormedHangs
+pub mod AllFormed

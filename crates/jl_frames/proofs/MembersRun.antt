@@ -54,7 +54,7 @@ MembersGo f s ms = (i : Inside) (under : Under) (stand : Stand) (kinds : List Tr
     Leads f (tally f (formed (members_say s i own_member m.subject m.scope ms))) (members_facts s i m.scope ms more) (state (Some (node_in m es p)) (opens.Object o ∷ k)) more
     (state (Some (node_in m (entries_after s i ms es) (parts_after i m.valued ms p))) (opens.Object o ∷ k))
 
-plain-faults : (fm : Form) (t : Option TermDef) (numbers languages plain : Unit {0} → List Fault) (mapped : TermDef → List Fault) (turned : List Fault) → fm ≡ plain_form →
+pub plain-faults : (fm : Form) (t : Option TermDef) (numbers languages plain : Unit {0} → List Fault) (mapped : TermDef → List Fault) (turned : List Fault) → fm ≡ plain_form →
     (faults_by fm t numbers languages mapped plain ++ turned) ≡ [] → plain tt ≡ []
 plain-faults fm t numbers languages plain mapped turned e h = subst (λ x. faults_by x t numbers languages mapped plain ≡ []) e (left-nil _ turned h)
 
@@ -95,7 +95,7 @@ no-json Streaming i seen kinds e = ap (λ b. b && is_json_type (type_of_values i
 pub property-built : (k : Key) (iri : Text) (B : Type 0) → k ≡ property iri → BuiltKey k B → B
 property-built k iri B e b = subst (λ x. BuiltKey x B) e b
 
-inside-property : (k : Key) (iri : Text) (ignored : Bool) (numbers : Unit {0} → List Fault) (under : Under → List Fault) (included properties nested reversed listed sets : Unit {0} → List Fault) → k ≡ property iri →
+pub inside-property : (k : Key) (iri : Text) (ignored : Bool) (numbers : Unit {0} → List Fault) (under : Under → List Fault) (included properties nested reversed listed sets : Unit {0} → List Fault) → k ≡ property iri →
     faults.inside_by k ignored numbers under included properties nested reversed listed sets ≡ [] → properties tt ≡ []
 inside-property k iri ignored numbers under included properties nested reversed listed sets e h =
     subst (λ x. faults.inside_by x ignored numbers under included properties nested reversed listed sets ≡ []) e h

@@ -1,5 +1,5 @@
 -- Quads are left out where a part isn't well-formed, and the terms of texts.
-use Rattle.std.proofs.Common.{◌≡◌, refl, sym, ◌∙◌, ap, Bool, true, false, ◌&&◌, [], ◌∷◌, inl, inr, Option, Some, None, IsTrue, ◌↔◌}
+use Rattle.std.proofs.Common.{◌≡◌, refl, sym, ◌∙◌, ap, Bool, true, false, ◌&&◌, [], ◌∷◌, inl, inr, Option, Some, None, IsTrue, IsUtf8, ◌↔◌}
 use Rattle.std.proofs.lemmas.Bool.{cases_Bool, and_from, and_parts}
 use Rattle.std.proofs.lemmas.Str.{IsUtf8-from_is_utf8, is_utf8-from_IsUtf8}
 use Rattle.std.proofs.lemmas.Slice.Eq.{bytes_eq-Decides}
@@ -24,6 +24,11 @@ is-iri text e = let parts = and_parts (has_iri_form text) (is_utf8 text) e in re
 pub test_is_iri : (test : Bool) (text : Text) → (IsTrue test ↔ IsIri text) → test ≡ is_iri text
 test_is_iri true text same = sym (iri-is text (same.0 refl))
 test_is_iri false text same = elim (cases_Bool (is_iri text)) [ inl e ↦ same.1 (is-iri text e) ∙ sym e | inr e ↦ sym e ]
+
+-- the two ways to say that a text is UTF-8
+pub test_is_utf8 : (test : Bool) (text : Text) → (IsTrue test ↔ IsUtf8 text) → test ≡ is_utf8 text
+test_is_utf8 true text same = sym (is_utf8-from_IsUtf8 text (same.0 refl))
+test_is_utf8 false text same = elim (cases_Bool (is_utf8 text)) [ inl e ↦ same.1 (IsUtf8-from_is_utf8 text e) ∙ sym e | inr e ↦ sym e ]
 
 node-is : (t : Term) → IsNode t → is_node t ≡ true
 node-is (Iri iri) h = iri-is iri h

@@ -19,19 +19,19 @@ use Rattle.jl_frames.proofs.EntryMarks.{IsPlain, ArePlain}
 use Rattle.jl_frames.proofs.Wheres.{Where, outside, within, under_at, stand_at, head_at, spot_at}
 use Rattle.jl_frames.proofs.EntriesEnd.{plain-end}
 
-plain-no : (test : Key → Bool) (ks : List Key) → ((k : Key) → IsPlain k → test k ≡ false) → ArePlain ks → any_key test ks ≡ false
+pub plain-no : (test : Key → Bool) (ks : List Key) → ((k : Key) → IsPlain k → test k ≡ false) → ArePlain ks → any_key test ks ≡ false
 plain-no test [] h p = refl
 plain-no test (k ∷ ks) h p = ap (λ b. b || any_key test ks) (h k p.0) ∙ plain-no test ks h p.1
 
-not-list : (k : Key) → IsPlain k → is_list k ≡ false
+pub not-list : (k : Key) → IsPlain k → is_list k ≡ false
 not-list list p = absurd p
 not-list k p = refl
 
-not-set : (k : Key) → IsPlain k → is_set k ≡ false
+pub not-set : (k : Key) → IsPlain k → is_set k ≡ false
 not-set set p = absurd p
 not-set k p = refl
 
-not-graph : (order : Order) (w : Where) (ks : List Key) → ArePlain ks → is_graph_role order (stand_at w) ks ≡ false
+pub not-graph : (order : Order) (w : Where) (ks : List Key) → ArePlain ks → is_graph_role order (stand_at w) ks ≡ false
 not-graph Any (outside true) [] p = refl
 not-graph Any (outside true) (graph ∷ ks) p = absurd p.0
 not-graph Any (outside true) (k ∷ ks) p = refl

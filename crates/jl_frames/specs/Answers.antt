@@ -1,12 +1,9 @@
 -- What a call may answer.
-use Rattle.std.specs.Prelude.{◌≡◌, Bool, true, false, not, ◌&&◌, List, [], ◌∷◌, Option, Some, None, Result, Err, codes, bytes_eq}
+use Rattle.std.specs.Prelude.{◌≡◌, Bool, true, not, List, [], ◌∷◌, Some, Result, Err, codes}
 use Rattle.jl_model.specs.declared.faults.Fault.{Fault}
 use Rattle.jl_model.specs.declared.expansions.Expanded.{Expanded}
 use Rattle.jl_model.specs.declared.expansions.Expanded.TheVariants as expanded
 use Rattle.jl_defs.specs.Texts.{Text, is_among}
-use Rattle.jl_frames.specs.declared.facts.Given.{Given}
-use Rattle.jl_frames.specs.declared.facts.Given.TheVariants as given
-use Rattle.jl_frames.specs.declared.nodes.Node.{Node}
 use Rattle.jl_frames.specs.declared.roles.Role.{Role}
 use Rattle.jl_frames.specs.declared.roles.Role.TheVariants as role
 use Rattle.jl_frames.specs.declared.states.FrameStop.{FrameStop}
@@ -44,16 +41,3 @@ abbrev pub is_built_key : Expanded → Bool
 is_built_key expanded.Null = true
 is_built_key (expanded.Keyword text) = not (is_among later_keywords text)
 is_built_key (expanded.Name text) = true
-
--- a type that is `@json`
-abbrev pub is_json : Given → Bool
-is_json (given.Type (expanded.Keyword text)) = bytes_eq text (codes "@json")
-is_json g = false
-
-abbrev pub is_valued : Option Node → Bool
-is_valued None = false
-is_valued (Some n) = n.valued
-
--- the type of a value object isn't `@json`
-abbrev pub is_built_scalar : Given → Option Node → Bool
-is_built_scalar g n = not (is_valued n && is_json g)

@@ -6,4 +6,5 @@ pub mod Machine
 pub mod Answers
 pub mod Facts
 pub mod Stage
+pub mod Streamed
 pub mod Laws

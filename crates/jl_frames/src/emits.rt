@@ -1,5 +1,6 @@
 //! The quads that one fact brings.
 ghost use Rattle.std.specs.Prelude.{◌≡◌, [], ◌∷◌, map};
+ghost use Rattle.jl_frames.specs.Formed.{listed};
 
 use jl_model::Quad;
 use std::marker::Model;
@@ -34,6 +35,13 @@ impl Emits {
         ensures { result ≡ quad ∷ [] }
     {
         Emits { quad: Some(quad) }
+    }
+
+    /// The quad, if there is one.
+    pub fn into_quad(self) -> Option<Quad>
+        ensures { listed result ≡ self }
+    {
+        self.quad
     }
 
     /// The quads, lent.

@@ -60,18 +60,6 @@ impl KeyFact {
     }
 }
 
-impl ValueFact {
-    /// Whether it is the type `@json`, which no value object may have yet.
-    pub fn is_json(&self) -> bool
-        ensures { result ≡ spec.is_json self.now.given }
-    {
-        match &self.given {
-            Given::Type(Expanded::Keyword(text)) => text.bytes() == b"@json".as_slice(),
-            _ => false,
-        }
-    }
-}
-
 /// Whether it is a keyword of a form that isn't built.
 fn is_later(text: &[u8]) -> bool
     ensures { result ≡ is_among spec.later_keywords text.now }

@@ -1,6 +1,6 @@
 //! The stack.
 ghost use Rattle.std.specs.Prelude.{◌≡◌, true, Ok, Err, None, Some, IfOk, IfErr, IfSome, IsErr};
-ghost use Rattle.jl_frames.specs.Answers.{HasCause, IsBuilt, IsRefusal, after_stop, is_built_key, is_built_scalar};
+ghost use Rattle.jl_frames.specs.Answers.{HasCause, IsBuilt, IsRefusal, after_stop, is_built_key};
 ghost use Rattle.jl_frames.specs.Machine as spec;
 
 use super::emits::Emits;
@@ -87,10 +87,9 @@ impl Stack {
         self.state.told(told)
     }
 
-    /// A scalar. A value object's type isn't `@json`: such objects aren't built.
+    /// A scalar.
     #[tactic(auto, unfolding(crate::specs::Machine::scalar))]
     pub fn scalar(&mut self, alloc: Global, value: ValueFact) -> Result<Emits, FrameStop>
-        requires built { is_built_scalar value.given self.old.node ≡ true }
         ensures goes { IfOk result (λ quads. spec.scalar value self.old ≡ Ok (quads, self.new)) }
         ensures stops { IfErr result (λ stop. HasCause stop (spec.scalar value self.old)) }
         ensures after { IfErr result (λ stop. self.new ≡ after_stop stop self.old) }

@@ -115,9 +115,6 @@ fn tell(alloc: Global, stack: &mut Stack, told: Told) -> Result<Emits, FrameStop
         _ => {
             let (at, given) = given(alloc, told)?;
             let value = ValueFact { at, given };
-            if value.is_json() {
-                return Err(FrameStop::NoMemory);
-            }
             stack.scalar(alloc, value)
         }
     }
