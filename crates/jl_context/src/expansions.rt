@@ -35,6 +35,60 @@ pub fn expand_iri(
     by_vocab(alloc, context, text, vocab, relative)
 }
 
+/// What the text expands to, as `expand_iri` has it. The text is moved into the answer where that
+/// has it as it is.
+pub fn expand_text(
+    alloc: Global,
+    context: &Context,
+    text: Text,
+    vocab: bool,
+    relative: bool,
+) -> Result<Expanded, NoMemory>
+    ensures { IfOk result (λ expanded. expanded ≡ spec.expand_iri (context_of context.now) text vocab relative) }
+{
+    if is_keyword(text.bytes()) {
+        return Ok(Expanded::Keyword(text));
+    }
+    if has_keyword_form(text.bytes()) {
+        return Ok(Expanded::Null);
+    }
+    if is_whole(text.bytes()) {
+        return Ok(Expanded::Name(text));
+    }
+    move_by_vocab(alloc, context, text, vocab, relative)
+}
+
+/// The vocabulary and the text, the text resolved against the base, or the text itself.
+fn move_by_vocab(
+    alloc: Global,
+    context: &Context,
+    text: Text,
+    vocab: bool,
+    relative: bool,
+) -> Result<Expanded, NoMemory>
+    ensures { IfOk result (λ expanded. expanded ≡ spec.by_vocab (context_of context.now) text vocab relative) }
+{
+    match context.vocab() {
+        Some(_) if vocab => by_vocab(alloc, context, text.bytes(), vocab, relative),
+        _ => Ok(Expanded::Name(move_by_base(alloc, context, text, relative)?)),
+    }
+}
+
+/// The text resolved against the base, or the text itself.
+fn move_by_base(
+    alloc: Global,
+    context: &Context,
+    text: Text,
+    relative: bool,
+) -> Result<Text, NoMemory>
+    ensures { IfOk result (λ name. name ≡ named relative (context_of context.now).level.base text) }
+{
+    match context.base() {
+        Some(base) if relative => resolve(alloc, base.bytes(), text.bytes()),
+        _ => Ok(text),
+    }
+}
+
 /// Whether a text with a colon is an answer as it stands: a blank node, an IRI with an authority,
 /// or another IRI. No context has prefixes.
 fn is_whole(text: &[u8]) -> bool

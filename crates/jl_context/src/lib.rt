@@ -9,4 +9,4 @@ mod keywords;
 mod tests;
 
 pub use contexts::Context;
-pub use expansions::expand_iri;
+pub use expansions::{expand_iri, expand_text};

@@ -112,8 +112,9 @@ impl Classes {
     }
 }
 
+/// The class of a keyword. It takes no memory.
 #[tactic(auto, using(crate::proofs::ClassLemmas::keyword_class))]
-fn class_of_keyword(keyword: &[u8]) -> Class
+pub fn class_of_keyword(keyword: &[u8]) -> Class
     ensures { result ≡ class_of (keyword_key keyword.now) }
 {
     if keyword == b"@id".as_slice() {

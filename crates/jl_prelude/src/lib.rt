@@ -8,7 +8,7 @@ mod states;
 #[cfg(test)]
 mod tests;
 
-pub use classes::{Class, Classes};
+pub use classes::{Class, Classes, class_of_keyword};
 pub use members::{PreludeMember, PreludeMembers};
 pub use preludes::Prelude;
 pub use states::PreludeState;
