@@ -1,0 +1,184 @@
+-- What one byte and the end say, by the laws of the stack.
+use Rattle.std.proofs.Common.{ℕ, ◌+◌, ◌-◌, ◌<◌, ◌≤◌, ◌≡◌, refl, sym, ◌∙◌, ap, subst, arith, Bool, false, List, [], ◌∷◌, ◌++◌, length, take, drop, get_or, Option, Ok, inl, inr, append-nil, length-append}
+use Rattle.std.proofs.lemmas.List.{take_all, length-drop}
+use Rattle.std.specs.Prelude.{IfSome}
+use Rattle.std.specs.Option.{option_to_list}
+use Rattle.jl_model.specs.Parts.{Parts}
+use Rattle.jl_model.specs.declared.tokens.Token.{Token}
+use Rattle.jl_token.specs.Lexed as lexed
+use Rattle.jl_token.specs.Lexed.{StopsAt, StopsAtEnd, Ends, IsNumberToken}
+use Rattle.jl_token.specs.declared.states.LexState.{LexState}
+use Rattle.jl_token.specs.declared.steps.LexStop.{LexStop}
+use Rattle.jl_token.specs.declared.steps.LexStop.TheVariants as lexing
+use Rattle.jl_defs.specs.Settings.{Settings}
+use Rattle.jl_context.specs.Contexts.{context_of}
+use Rattle.jl_frames.specs.Facts.{Fact}
+use Rattle.jl_frames.specs.Streamed.{tell}
+use Rattle.jl_frames.specs.declared.states.StackState.{StackState}
+use Rattle.jl_engine.specs.Saying.{AreFirst, Says, SaysSome, StopsSaying}
+use Rattle.jl_engine.specs.Standing.{Stands, AreSure, WerePut, Fed, Cause, Stopped, Finished, EndCause, StoppedAtEnd}
+use Rattle.jl_engine.specs.Stops.{of_lexer}
+use Rattle.jl_engine.specs.Translation.{events_step}
+use Rattle.jl_engine.specs.TreeEvents.{events_of}
+use Rattle.jl_engine.specs.declared.engines.EngineState.{EngineState}
+use Rattle.jl_engine.specs.declared.stops.Stop.{Stop}
+use Rattle.jl_engine.specs.declared.stops.Stop.TheVariants.{Refused, OutFault, NoMemory}
+use Rattle.jl_engine.proofs.Consequences.{sure, sure-longer, grows}
+use Rattle.jl_engine.proofs.Endings.{end-quiet}
+use Rattle.jl_engine.proofs.Feeding.{put-none, run-stands, byte-refused, byte-stopped, facts-refused, puts-stopped, fed-by, end-refused, end-stopped, end-facts-refused, ended}
+use Rattle.jl_frames.proofs.StreamRun.{stream-says, stream-refuses}
+
+-- the facts that tokens tell an engine
+abbrev pub facts_at : EngineState → List Token → List Fact
+facts_at e tokens = (events_step (context_of e.context) (events_of tokens) e.cursor).0
+
+pub sure-now : (s : Settings) (bytes : List ℕ) (quads : List Parts) (e : EngineState) → Stands s bytes quads e → AreSure s bytes quads
+sure-now s bytes quads e h = sure stream-says stream-refuses s bytes quads e h
+
+-- ---- a byte
+
+-- the lexer stops at it
+pub byte-fails : (s : Settings) (bytes : List ℕ) (quads : List Parts) (byte : ℕ) (why : LexStop) (old new : EngineState) (told : List Parts → Type 0) (selects : Parts → Bool) → Stands s bytes quads old →
+    new.bytes ≡ old.bytes + 1 → StopsAt 0 bytes byte why → Stopped s bytes quads (byte ∷ []) (of_lexer why) new told told selects
+byte-fails s bytes quads byte (lexing.Refused f) old new told selects h count stops =
+    byte-stopped stream-says stream-refuses s bytes quads byte (Refused f) old new told selects h count (byte-refused s bytes byte f stops)
+byte-fails s bytes quads byte lexing.NoMemory old new told selects h count stops =
+    byte-stopped stream-says stream-refuses s bytes quads byte NoMemory old new told selects h count tt
+
+-- what it completes is said
+pub byte-said : (s : Settings) (bytes : List ℕ) (quads : List Parts) (byte : ℕ) (tokens : List Token) (old new : EngineState) (told tells : List Parts → Type 0) (selects : Parts → Bool) → Stands s bytes quads old →
+    lexed.Takes old.lexer new.lexer byte tokens → new.lexer.ended ≡ false → new.context ≡ old.context → new.cursor ≡ (events_step (context_of old.context) (events_of tokens) old.cursor).1 →
+    new.bytes ≡ old.bytes + 1 → new.stopped ≡ old.stopped → new.ended ≡ old.ended → Says (facts_at old tokens) old.stack new.stack told tells selects → Fed s bytes quads (byte ∷ []) new told tells selects
+byte-said s bytes quads byte tokens old new told tells selects h takes live context cursor count goes going says =
+    fed-by s bytes quads (byte ∷ []) says.more new told tells selects
+    (grows s bytes quads old new byte tokens says.more h takes live context cursor says.told_is count (goes ∙ h.goes_on) (going ∙ h.going)) says.put
+
+pub kept-bytes : (mid new : EngineState) → new ≡ record mid { cursor = new.cursor; stack = new.stack } → new.bytes ≡ mid.bytes
+kept-bytes mid new kept = ap (λ e. e.bytes) kept
+
+-- the same, where only the cursor and the stack have changed since the lexer took it
+pub byte-kept : (s : Settings) (bytes : List ℕ) (quads : List Parts) (byte : ℕ) (tokens : List Token) (old mid new : EngineState) (told tells : List Parts → Type 0) (selects : Parts → Bool) → Stands s bytes quads old →
+    lexed.Takes old.lexer mid.lexer byte tokens → mid.lexer.ended ≡ false → mid.context ≡ old.context → mid.bytes ≡ old.bytes + 1 → mid.stopped ≡ old.stopped → mid.ended ≡ old.ended →
+    new ≡ record mid { cursor = new.cursor; stack = new.stack } → new.cursor ≡ (events_step (context_of old.context) (events_of tokens) old.cursor).1 → Says (facts_at old tokens) old.stack new.stack told tells selects →
+    Fed s bytes quads (byte ∷ []) new told tells selects
+byte-kept s bytes quads byte tokens old mid new told tells selects h takes live context count goes going kept cursor says =
+    byte-said s bytes quads byte tokens old new told tells selects h
+    (λ place p given st. subst (lexed.Stands place (p ++ byte ∷ []) (given ++ tokens)) (sym (ap (λ e. e.lexer) kept)) (takes place p given st))
+    (ap (λ e. e.lexer.ended) kept ∙ live) (ap (λ e. e.context) kept ∙ context) cursor (ap (λ e. e.bytes) kept ∙ count) (ap (λ e. e.stopped) kept ∙ goes) (ap (λ e. e.ended) kept ∙ going) says
+
+-- why what it completes isn't said
+unsaid-cause : (s : Settings) (bytes : List ℕ) (quads : List Parts) (byte : ℕ) (tokens : List Token) (stop : Stop) (old : EngineState) (lexer : LexState) → Stands s bytes quads old → lexed.Takes old.lexer lexer byte tokens →
+    StopsSaying (facts_at old tokens) old.stack stop → Cause s (bytes ++ byte ∷ []) stop
+unsaid-cause s bytes quads byte tokens (Refused f) old lexer h takes e = facts-refused stream-says stream-refuses s bytes quads byte tokens f old lexer h takes e
+unsaid-cause s bytes quads byte tokens OutFault old lexer h takes e = tt
+unsaid-cause s bytes quads byte tokens NoMemory old lexer h takes e = tt
+
+pub byte-unsaid : (s : Settings) (bytes : List ℕ) (quads : List Parts) (byte : ℕ) (tokens : List Token) (stop : Stop) (old new : EngineState) (lexer : LexState) (told tells : List Parts → Type 0) (selects : Parts → Bool) → Stands s bytes quads old →
+    lexed.Takes old.lexer lexer byte tokens → new.bytes ≡ old.bytes + 1 → SaysSome (facts_at old tokens) old.stack told tells selects → StopsSaying (facts_at old tokens) old.stack stop → Stopped s bytes quads (byte ∷ []) stop new told tells selects
+byte-unsaid s bytes quads byte tokens stop old new lexer told tells selects h takes count some stops = by some.front some.first some.put
+  where
+    cause : Cause s (bytes ++ byte ∷ []) stop
+    cause = unsaid-cause s bytes quads byte tokens stop old lexer h takes stops
+
+    by : (front : List Parts) → AreFirst (facts_at old tokens) old.stack front → WerePut told tells selects front → Stopped s bytes quads (byte ∷ []) stop new told tells selects
+    by front (inl e) put = record {
+      front = byte ∷ [];
+      back = [];
+      piece_is = refl;
+      count = count ∙ (ap (λ n. n + 1) h.count ∙ sym (length-append bytes (byte ∷ [])));
+      more = [];
+      sure = subst (λ q. AreSure s (bytes ++ byte ∷ []) q) (sym (append-nil quads)) (sure-longer s bytes (byte ∷ []) quads (sure-now s bytes quads old h));
+      put = subst (WerePut told tells selects) e put;
+      cause = cause;
+    }
+    by front (inr (back, stack, e)) put = puts-stopped stream-says stream-refuses s bytes quads byte tokens front back stop old new lexer stack told tells selects h takes e count put cause
+
+-- ---- the end
+
+pub end-fails : (s : Settings) (bytes : List ℕ) (quads : List Parts) (why : LexStop) (old : EngineState) (told : List Parts → Type 0) (selects : Parts → Bool) → Stands s bytes quads old →
+    StopsAtEnd 0 bytes why → StoppedAtEnd s bytes quads (of_lexer why) told told selects
+end-fails s bytes quads (lexing.Refused f) old told selects h stops = end-stopped stream-says stream-refuses s bytes quads (Refused f) old told selects h (end-refused s bytes f stops)
+end-fails s bytes quads lexing.NoMemory old told selects h stops = absurd stops
+
+pub end-said : (s : Settings) (bytes : List ℕ) (quads : List Parts) (token : Option Token) (tokens : List Token) (old : EngineState) (stack : StackState) (told tells : List Parts → Type 0) (selects : Parts → Bool) → Stands s bytes quads old →
+    Ends old.lexer token → IfSome token IsNumberToken → tokens ≡ option_to_list token → Says (facts_at old tokens) old.stack stack told tells selects → Finished s bytes quads told tells selects
+end-said s bytes quads token tokens old stack told tells selects h ends number same says =
+    let all = subst (λ ts. Says (facts_at old ts) old.stack stack told tells selects) same says in
+    let none : all.more ≡ [] = end-quiet s bytes quads token all.more old stack h ends number all.told_is in
+    let same_quads : quads ≡ quads ++ all.more = sym (append-nil quads) ∙ ap (λ m. quads ++ m) (sym none) in
+    ended stream-says stream-refuses s bytes quads token all.more old stack told tells selects h ends all.told_is all.put
+    (subst (λ q. AreSure s bytes q) same_quads (sure-now s bytes quads old h))
+
+unsaid-end : (s : Settings) (bytes : List ℕ) (quads : List Parts) (token : Option Token) (stop : Stop) (old : EngineState) → Stands s bytes quads old → Ends old.lexer token → StopsSaying (facts_at old (option_to_list token)) old.stack stop → EndCause s bytes stop
+unsaid-end s bytes quads token (Refused f) old h ends e = end-facts-refused stream-says stream-refuses s bytes quads token f old h ends e
+unsaid-end s bytes quads token OutFault old h ends e = tt
+unsaid-end s bytes quads token NoMemory old h ends e = tt
+
+nothing-first : {A : Type 0} (xs ys : List A) → xs ++ ys ≡ [] → xs ≡ []
+nothing-first [] ys e = refl
+nothing-first (x ∷ xs) ys e = cc
+
+-- what the end completes brings no quads, so none is put
+pub end-unsaid : (s : Settings) (bytes : List ℕ) (quads : List Parts) (token : Option Token) (tokens : List Token) (stop : Stop) (old : EngineState) (told tells : List Parts → Type 0) (selects : Parts → Bool) → Stands s bytes quads old →
+    Ends old.lexer token → IfSome token IsNumberToken → tokens ≡ option_to_list token → SaysSome (facts_at old tokens) old.stack told tells selects → StopsSaying (facts_at old tokens) old.stack stop → StoppedAtEnd s bytes quads stop told tells selects
+end-unsaid s bytes quads token tokens stop old told tells selects h ends number same some stops =
+    record {
+      more = [];
+      sure = subst (λ q. AreSure s bytes q) (sym (append-nil quads)) (sure-now s bytes quads old h);
+      put = subst (WerePut told tells selects) (none some.front some.first) some.put;
+      cause = unsaid-end s bytes quads token stop old h ends (subst (λ ts. StopsSaying (facts_at old ts) old.stack stop) same stops);
+    }
+  where
+    none : (front : List Parts) → AreFirst (facts_at old tokens) old.stack front → front ≡ []
+    none front (inl e) = e
+    none front (inr (back, stack, e)) =
+        nothing-first front back (end-quiet s bytes quads token (front ++ back) old stack h ends number (subst (λ ts. ◌≡◌ (tell (facts_at old ts) old.stack) (Ok (front ++ back, stack))) same e))
+
+-- ---- runs
+
+-- no byte was read for want of memory
+pub nothing-read : (s : Settings) (bytes : List ℕ) (quads : List Parts) (piece : List ℕ) (old new : EngineState) (told : List Parts → Type 0) (selects : Parts → Bool) → Stands s bytes quads old → new.bytes ≡ old.bytes →
+    Stopped s bytes quads piece NoMemory new told told selects
+nothing-read s bytes quads piece old new told selects h same =
+    record {
+      front = [];
+      back = piece;
+      piece_is = refl;
+      count = same ∙ (h.count ∙ ap length (sym (append-nil bytes)));
+      more = [];
+      sure = subst (λ b. AreSure s b (quads ++ [])) (sym (append-nil bytes)) (subst (λ q. AreSure s bytes q) (sym (append-nil quads)) (sure-now s bytes quads old h));
+      put = put-none told told selects (λ all t. t);
+      cause = tt;
+    }
+
+-- an empty run
+pub run-nothing : (s : Settings) (bytes : List ℕ) (quads : List Parts) (piece : List ℕ) (n : ℕ) (old new : EngineState) → n ≤ 0 → Stands s bytes quads old →
+    ((place : ℕ) (p : List ℕ) (given : List Token) → lexed.Stands place p given old.lexer → lexed.Stands place (p ++ take n piece) given new.lexer) →
+    new.lexer.ended ≡ false → new.context ≡ old.context → new.cursor ≡ old.cursor → new.stack ≡ old.stack → new.bytes ≡ old.bytes → new.stopped ≡ old.stopped → new.ended ≡ old.ended → Stands s bytes quads new
+run-nothing s bytes quads piece n old new none h runs live context cursor stack count goes going =
+    let zero_is : n ≡ 0 = omega (arith, none) in
+    let nothing : bytes ++ take n piece ≡ bytes = ap (λ k. bytes ++ take k piece) zero_is ∙ append-nil bytes in
+    let short : length (take n piece) ≡ 0 = ap (λ k. length (take k piece)) zero_is in
+    subst (λ b. Stands s b quads new) nothing (run-stands s bytes quads (take n piece) old new h runs live context cursor stack (omega (arith, count, short)) (goes ∙ h.goes_on) (going ∙ h.going))
+
+pub take_one : (piece : List ℕ) → 0 < length piece → take 1 piece ≡ get_or piece 0 0 ∷ []
+take_one [] h = absurd (omega (arith, h))
+take_one (c ∷ piece) h = refl
+
+-- the rest of a piece, as a slice of it
+pub rest_is : (piece : List ℕ) (at : ℕ) → take (length piece - at) (drop at piece) ≡ drop at piece
+rest_is piece at = let e : length (drop at piece) ≡ length piece - at = length-drop at piece in take_all (length piece - at) (drop at piece) (omega (arith, e))
+
+-- an engine that has stopped there
+pub stopped-there : (s : Settings) (bytes : List ℕ) (quads : List Parts) (piece : List ℕ) (stop : Stop) (old new : EngineState) (told tells : List Parts → Type 0) (selects : Parts → Bool) → new.bytes ≡ old.bytes →
+    Stopped s bytes quads piece stop old told tells selects → Stopped s bytes quads piece stop new told tells selects
+stopped-there s bytes quads piece stop old new told tells selects same b = record {
+  front = b.front;
+  back = b.back;
+  piece_is = b.piece_is;
+  count = same ∙ b.count;
+  more = b.more;
+  sure = b.sure;
+  put = b.put;
+  cause = b.cause;
+}

@@ -1,0 +1,52 @@
+-- The tokens of a byte, one after another.
+use Rattle.std.proofs.Common.{◌≡◌, ℕ, ◌+◌, ◌-◌, ◌^◌, ◌≤◌, min, List, ◌++◌, length, Ok, sym, ap, ◌∙◌, subst, arith, length-append}
+use Rattle.jl_model.specs.Parts.{Parts}
+use Rattle.jl_model.specs.declared.tokens.Token.{Token}
+use Rattle.jl_token.specs.Lexed as lexed
+use Rattle.jl_token.specs.declared.states.LexState.{LexState}
+use Rattle.jl_defs.specs.Context.{Context}
+use Rattle.jl_frames.specs.Answers.{HasCause}
+use Rattle.jl_frames.specs.declared.states.FrameStop.{FrameStop}
+use Rattle.jl_frames.specs.declared.states.StackState.{StackState}
+use Rattle.jl_engine.specs.Gathers.{gather}
+use Rattle.jl_engine.specs.Translation.{events_step, then_told}
+use Rattle.jl_engine.specs.TreeEvents.{events_of}
+use Rattle.jl_engine.specs.declared.cursors.Cursor.{Cursor}
+use Rattle.jl_engine.proofs.Feeding.{fits}
+use Rattle.jl_engine.proofs.Gathering.{gather_on, stops_first}
+use Rattle.jl_engine.proofs.TokensOfTrees.{events-of-append}
+use Rattle.jl_engine.proofs.DecidedTrees.{events-append}
+
+tokens_both : (c : Context) (xs ys : List Token) (u : Cursor) → events_step c (events_of (xs ++ ys)) u ≡ then_told (events_step c (events_of xs) u).0 (events_step c (events_of ys) (events_step c (events_of xs) u).1)
+tokens_both c xs ys u = ap (λ es. events_step c es u) (events-of-append xs ys) ∙ events-append c (events_of xs) (events_of ys) u
+
+pub tokens_on : (c d : Context) (xs ys : List Token) (u at : Cursor) (quads more : List Parts) (s next : StackState) → d ≡ c → at ≡ (events_step c (events_of xs) u).1
+    → gather (events_step c (events_of xs) u).0 quads s ≡ Ok (more, next) → gather (events_step c (events_of (xs ++ ys)) u).0 quads s ≡ gather (events_step d (events_of ys) at).0 more next
+tokens_on c d xs ys u at quads more s next same is e =
+    ap (λ t. gather t.0 quads s) (tokens_both c xs ys u)
+    ∙ gather_on (events_step c (events_of xs) u).0 (events_step c (events_of ys) (events_step c (events_of xs) u).1).0 quads more s next e
+    ∙ ap (λ w. gather (events_step c (events_of ys) w).0 more next) (sym is)
+    ∙ ap (λ w. gather (events_step w (events_of ys) at).0 more next) (sym same)
+
+pub tokens_behind : (c d : Context) (xs ys : List Token) (u at : Cursor) → d ≡ c → at ≡ (events_step c (events_of xs) u).1 → (events_step c (events_of (xs ++ ys)) u).1 ≡ (events_step d (events_of ys) at).1
+tokens_behind c d xs ys u at same is =
+    ap (λ t. t.1) (tokens_both c xs ys u) ∙ ap (λ w. (events_step c (events_of ys) w).1) (sym is) ∙ ap (λ w. (events_step w (events_of ys) at).1) (sym same)
+
+pub tokens_stop : (c : Context) (xs ys : List Token) (u : Cursor) (quads : List Parts) (s : StackState) (why : FrameStop)
+    → HasCause why (gather (events_step c (events_of xs) u).0 quads s) → HasCause why (gather (events_step c (events_of (xs ++ ys)) u).0 quads s)
+tokens_stop c xs ys u quads s why h =
+    subst (λ t. HasCause why (gather t.0 quads s)) (sym (tokens_both c xs ys u)) (stops_first (events_step c (events_of xs) u).0 (events_step c (events_of ys) (events_step c (events_of xs) u).1).0 quads s why h)
+
+-- ---- the count of bytes
+
+pub one_more : (bytes : List ℕ) (given : List Token) (l : LexState) (n count : ℕ) → lexed.Stands 0 bytes given l → lexed.IsFormed l → count ≡ length bytes → n ≡ min (l.reading.at + 1) (2 ^ 64 - 1) → n ≡ count + 1
+one_more bytes given l n count h f c e =
+    let room : length bytes ≤ 2 ^ 40 = fits bytes given l h f in
+    let at = h.reading.at_is in
+    omega (arith, room, at, c, e)
+
+pub run_more : (bytes run : List ℕ) (given : List Token) (l : LexState) (n count : ℕ) → lexed.Stands 0 (bytes ++ run) given l → count ≡ length bytes → n ≡ l.reading.at → n ≡ count + length run
+run_more bytes run given l n count h c e =
+    let at = h.reading.at_is in
+    let all : length (bytes ++ run) ≡ length bytes + length run = length-append bytes run in
+    omega (arith, at, all, c, e)

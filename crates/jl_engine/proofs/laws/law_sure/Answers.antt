@@ -1,0 +1,5 @@
+use Rattle.jl_engine.proofs.Bytes.{sure-now}
+use Rattle.jl_engine.proofs.laws.law_sure.Goals as goal
+
+pub returns : goal.returns
+returns c = sure-now

@@ -1,0 +1,10 @@
+pub mod Classes
+pub mod Frames
+pub mod Gathers
+pub mod Saying
+pub mod Stops
+pub mod TreeEvents
+pub mod Translation
+pub mod Standing
+pub mod OpenEvents
+pub mod Prompt

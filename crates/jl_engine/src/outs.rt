@@ -1,0 +1,57 @@
+//! Quads, put one after another.
+ghost use Rattle.std.specs.Prelude.{◌≡◌, [], ◌∷◌, OnOk, OnErr, IfErr, IsErrOf};
+ghost use Rattle.jl_model.specs.Causes.{HasCause};
+ghost use Rattle.jl_model.specs.Parts.{Parts};
+ghost use Rattle.jl_engine.specs.Saying.{PutSome};
+ghost use Rattle.jl_engine.specs.Standing.{WerePut};
+ghost use Rattle.jl_engine.specs.Stops.{IsOutside};
+
+use crate::stops::Stop;
+use crate::tellings::Quads;
+use jl_model::{Quad, QuadOut};
+
+/// Puts quads in their order.
+pub fn put_all<O: QuadOut>(quads: &Quads, out: &mut O) -> Result<(), Stop>
+    ensures put { OnOk result (WerePut (O.tells out.old) (O.tells out.new) (O.selects out.old) quads.now) }
+    ensures some { OnErr result (PutSome (O.tells out.old) (O.tells out.new) (O.selects out.old) quads.now) }
+    ensures stop { IfErr result IsOutside }
+    ensures selects { (q : Parts) → O.selects out.new q ≡ O.selects out.old q }
+    ensures cause { HasCause (O.faults out.old) (O.faults out.new) (IsErrOf result Stop.OutFault) }
+    ensures beside { O.beside out.old out.new }
+{
+    let (first, others) = quads.parts();
+    if let Err(stop) = put_each(first, out) {
+        return Err(stop);
+    }
+    put_each(others, out)
+}
+
+fn put_each<O: QuadOut>(quads: &[Quad], out: &mut O) -> Result<(), Stop>
+    ensures put { OnOk result (WerePut (O.tells out.old) (O.tells out.new) (O.selects out.old) quads.now) }
+    ensures some { OnErr result (PutSome (O.tells out.old) (O.tells out.new) (O.selects out.old) quads.now) }
+    ensures stop { IfErr result IsOutside }
+    ensures selects { (q : Parts) → O.selects out.new q ≡ O.selects out.old q }
+    ensures cause { HasCause (O.faults out.old) (O.faults out.new) (IsErrOf result Stop.OutFault) }
+    ensures beside { O.beside out.old out.new }
+{
+    for quad in quads {
+        if let Err(stop) = put_quad(quad, out) {
+            return Err(stop);
+        }
+    }
+    Ok(())
+}
+
+fn put_quad<O: QuadOut>(quad: &Quad, out: &mut O) -> Result<(), Stop>
+    ensures put { OnOk result (WerePut (O.tells out.old) (O.tells out.new) (O.selects out.old) (quad.now ∷ [])) }
+    ensures unput { OnErr result (WerePut (O.tells out.old) (O.tells out.new) (O.selects out.old) []) }
+    ensures stop { IfErr result IsOutside }
+    ensures selects { (q : Parts) → O.selects out.new q ≡ O.selects out.old q }
+    ensures cause { HasCause (O.faults out.old) (O.faults out.new) (IsErrOf result Stop.OutFault) }
+    ensures beside { O.beside out.old out.new }
+{
+    match out.put(quad) {
+        Ok(()) => Ok(()),
+        Err(stop) => Err(Stop::of_out(stop)),
+    }
+}
