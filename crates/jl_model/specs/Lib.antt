@@ -9,7 +9,6 @@ pub mod Lines
 pub mod LineTokens
 pub mod LineGrammar
 pub mod LineFaults
-pub mod Flat
 pub mod JsonTree
 pub mod Resolve
 pub mod Ren
@@ -19,4 +18,3 @@ pub mod JsonStrings
 pub mod JsonText
 pub mod TextFaults
 pub mod TokenPlaces
-pub mod FlatForm

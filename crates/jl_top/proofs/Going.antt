@@ -1,23 +1,25 @@
 -- What the loop over the pieces has done, and how it ends.
-use Rattle.std.proofs.Common.{◌≡◌, ◌<◌, ◌≤◌, ℕ, ◌+◌, ◌-◌, ◌^◌, min, Bool, true, false, List, [], ◌∷◌, ◌++◌, length, refl, sym, ap, ◌∙◌, subst, arith, append_assoc, append-nil, length-append, Option, Some, None, Result, Ok, Err, OnOk, IsErrOf, ◌⊎◌, inl, inr}
+use Rattle.std.proofs.Common.{◌≡◌, ◌<◌, ◌≤◌, ℕ, ◌+◌, ◌-◌, ◌^◌, min, nat_lt, Bool, true, false, List, [], ◌++◌, length, refl, sym, ap, ◌∙◌, subst, arith, append_assoc, append-nil, length-append, Option, Some, None, Result, Ok, Err, IsErrOf, ◌⊎◌, inl, inr}
+use Rattle.std.proofs.lemmas.Bool.{ltb-true}
 use Rattle.std.specs.Option.{IfSome}
 use Rattle.jl_io.specs.Outside.{appended, Leaves, NoneLeft}
 use Rattle.jl_model.specs.Causes.{Rose}
 use Rattle.jl_model.specs.Parts.{Parts}
-use Rattle.jl_model.specs.declared.codes.Code.{Code}
-use Rattle.jl_model.specs.declared.codes.Code.TheVariants.{Truncated, TooLong, NotYet}
-use Rattle.jl_top.specs.Blocks.{held_of, CountsLines, IsEmptyBlock, line_count}
+use Rattle.jl_model.specs.declared.faults.Fault.{Fault}
+use Rattle.jl_defs.specs.Settings.{Settings}
+use Rattle.jl_engine.specs.Standing.{Stands, AreSure, EndCause}
+use Rattle.jl_engine.specs.declared.engines.EngineState.{EngineState}
+use Rattle.jl_engine.specs.declared.stops.Stop.{Stop}
+use Rattle.jl_engine.specs.declared.stops.Stop.TheVariants as stops
 use Rattle.jl_nquads.specs.LineOuts.{TellsLines}
-use Rattle.jl_top.specs.Pieces.{PutsLines, FedLines, StoppedLines, is_out_fault}
-use Rattle.jl_top.specs.Reading.{AreSure, HasRead, StopCause, RefusalFor, EndCause, EndCauseFor}
-use Rattle.jl_top.specs.Runs.{IsFresh, Took, ReadsWhole, IsFault, HasFault, StopsFor, StopsRun, LinesAreSure, is_cut, AnswersLines, AnswersRun, Going, read_stop_for, EndsRun}
+use Rattle.jl_top.specs.Blocks.{held_of, CountsLines, IsEmptyBlock, line_count}
+use Rattle.jl_top.specs.Pieces.{PutsLines, StopCause, HasBegun, FedLines, StoppedLines, FinishedLines, EndedLines, is_out_fault}
+use Rattle.jl_top.specs.Runs.{IsFresh, Took, ReadsWhole, in_bytes, at_end, StopsFor, LinesAreSure, is_cut, AnswersRun, HasPut, Going, read_stop_for, piece_stop_for, EndsRun}
+use Rattle.jl_top.specs.Words.{settings_with}
 use Rattle.jl_top.specs.declared.blocks.Block.{Block}
-use Rattle.jl_top.specs.declared.flat_readers.FlatReader.{FlatReader}
 use Rattle.jl_top.specs.declared.stops.ReadStop.{ReadStop}
-use Rattle.jl_top.specs.declared.stops.ReadStop.TheVariants.{Refused, TakeFault, OutFault, NoMemory}
-use Rattle.jl_top.specs.declared.stops.Stop.{Stop}
-use Rattle.jl_top.specs.declared.stops.Stop.TheVariants as stops
-use Rattle.jl_top.proofs.Feeding.{read_sure}
+use Rattle.jl_top.specs.declared.stops.ReadStop.TheVariants.{Refused, TooLong, TakeFault, OutFault, NoMemory}
+use Rattle.jl_engine.proofs.Bytes.{sure-now}
 
 leaves_nil : (left : Option (List ℕ)) → Leaves left [] left
 leaves_nil None = tt
@@ -47,35 +49,42 @@ nothing_counted None lines h e = tt
 nothing_counted (Some w) lines h e = subst (λ bytes. lines ≡ line_count bytes) (sym h) e
 
 -- before the first piece
-pub going_start : (reader : FlatReader) (block : Block) (t l w : Option (List ℕ)) → IsFresh t w → IsEmptyBlock block → HasRead [] [] reader → Going reader block t l l w 0
-going_start reader block t l w fresh empty read =
+pub going_start : (engine : EngineState) (block : Block) (t l w : Option (List ℕ)) → IsFresh t w → IsEmptyBlock block → Going engine engine block t l l w 0
+going_start engine block t l w fresh empty =
     record {
       bytes = [];
-      quads = [];
-      read = read;
       took = record { taken_is = fresh.none_taken; left_is = leaves_nil l };
-      lines = nothing_told w fresh.none_put;
+      puts = λ s stands. record { quads = []; stands = stands; lines = nothing_told w fresh.none_put };
       none_held = empty.nothing_held;
       counts = nothing_counted w block.lines fresh.none_put empty.no_lines;
       many = refl;
     }
 
 -- one more piece
-pub going_more : (r1 r2 : FlatReader) (b1 b2 : Block) (t1 t2 l0 l1 l2 w1 w2 : Option (List ℕ)) (count count_new : ℕ) (piece : List ℕ) → (g : Going r1 b1 t1 l0 l1 w1 count) → t2 ≡ appended t1 piece → Leaves l1 piece l2
-    → FedLines g.bytes g.quads piece r2 w1 w2 → held_of b2 ≡ [] → (CountsLines w1 b1.lines → CountsLines w2 b2.lines) → count_new ≡ count + length piece → Going r2 b2 t2 l0 l2 w2 count_new
-going_more r1 r2 b1 b2 t1 t2 l0 l1 l2 w1 w2 count count_new piece g t l fed held counts longer_by =
+pub going_more : (e0 e1 e2 : EngineState) (b1 b2 : Block) (t1 t2 l0 l1 l2 w1 w2 : Option (List ℕ)) (count count_new : ℕ) (piece : List ℕ) → (g : Going e0 e1 b1 t1 l0 l1 w1 count) → t2 ≡ appended t1 piece → Leaves l1 piece l2
+    → ((s : Settings) (bytes : List ℕ) (quads : List Parts) → Stands s bytes quads e1 → FedLines s bytes quads piece e2 w1 w2) → held_of b2 ≡ [] → (CountsLines w1 b1.lines → CountsLines w2 b2.lines) → count_new ≡ count + length piece → Going e0 e2 b2 t2 l0 l2 w2 count_new
+going_more e0 e1 e2 b1 b2 t1 t2 l0 l1 l2 w1 w2 count count_new piece g t l fed held counts longer_by =
     let many : count ≡ length g.bytes = g.many in
     let longer : length (g.bytes ++ piece) ≡ length g.bytes + length piece = length-append g.bytes piece in
     record {
       bytes = g.bytes ++ piece;
-      quads = g.quads ++ fed.more;
-      read = fed.read;
       took = took_more g.bytes piece t1 t2 l0 l1 l2 g.took t l;
-      lines = fed.lines g.lines;
+      puts = λ s stands.
+          let p = g.puts s stands in
+          let f = fed s g.bytes p.quads p.stands in
+          record { quads = p.quads ++ f.more; stands = f.holds; lines = f.lines p.lines };
       none_held = held;
       counts = counts g.counts;
       many = omega arith;
     }
+
+-- the engine goes on
+pub begun_more : (e1 e2 : EngineState) (piece : List ℕ) (w1 w2 : Option (List ℕ)) → HasBegun e1 → ((s : Settings) (bytes : List ℕ) (quads : List Parts) → Stands s bytes quads e1 → FedLines s bytes quads piece e2 w1 w2) → HasBegun e2
+begun_more e1 e2 piece w1 w2 (s, bytes, quads, stands) fed = let f = fed s bytes quads stands in (s, bytes ++ piece, quads ++ f.more, f.holds)
+
+-- an engine that was made for some settings
+pub begun_new : (e : EngineState) (base : Option (List ℕ)) → ((s : Settings) → s.order ≡ (settings_with base).order → s.base ≡ base → Stands s [] [] e) → HasBegun e
+begun_new e base h = (settings_with base, [], [], h (settings_with base) refl refl)
 
 none_left : (l1 l2 : Option (List ℕ)) → Leaves l1 [] l2 → NoneLeft l1 → NoneLeft l2
 none_left None None h k = tt
@@ -87,149 +96,134 @@ none_left (Some a) None h k = absurd h
 took_end : (bytes : List ℕ) (t1 t2 l0 l1 l2 : Option (List ℕ)) → Took bytes t1 l0 l1 → t2 ≡ appended t1 [] → Leaves l1 [] l2 → Took bytes t2 l0 l2
 took_end bytes t1 t2 l0 l1 l2 took t l = subst (λ b. Took b t2 l0 l2) (append-nil bytes) (took_more bytes [] t1 t2 l0 l1 l2 took t l)
 
--- the end of a document that is accepted
-pub end_whole : (reader : FlatReader) (block : Block) (t1 t2 l0 l1 l2 w1 : Option (List ℕ)) (count : ℕ) (result : Result (Unit {0}) ReadStop) → Going reader block t1 l0 l1 w1 count → t2 ≡ appended t1 [] → Leaves l1 [] l2 → NoneLeft l1
-    → EndsRun reader result → OnOk result (ReadsWhole t2 l0 l2 w1)
-end_whole reader block t1 t2 l0 l1 l2 w1 count (Ok u) g t l none e =
-    record {
-      bytes = g.bytes;
-      took = took_end g.bytes t1 t2 l0 l1 l2 g.took t l;
-      none_left = none_left l1 l2 l none;
-      quads = g.quads;
-      flat = e g.bytes g.quads g.read;
-      lines = g.lines;
+module _ (e0 e1 : EngineState) (block : Block) (t1 l0 l1 w1 : Option (List ℕ)) (count : ℕ) (g : Going e0 e1 block t1 l0 l1 w1 count) (s : Settings) (start : Stands s [] [] e0) where
+  was_put : HasPut s g.bytes e1 w1
+  was_put = g.puts s start
+
+  -- what has been put is sure
+  pub going_lines : LinesAreSure s false t1 l0 l1 w1
+  going_lines = record {
+    bytes = g.bytes;
+    took = g.took;
+    puts = record { quads = was_put.quads; holds = sure-now s g.bytes was_put.quads e1 was_put.stands; lines = was_put.lines };
+  }
+
+  -- ---- the end
+
+  module _ (t2 l2 w2 : Option (List ℕ)) (t : t2 ≡ appended t1 []) (l : Leaves l1 [] l2) (none : NoneLeft l1) where
+    took : Took g.bytes t2 l0 l2
+    took = took_end g.bytes t1 t2 l0 l1 l2 g.took t l
+
+    module _ (h : FinishedLines s g.bytes was_put.quads w1 w2) where
+      end_lines : LinesAreSure s false t2 l0 l2 w2
+      end_lines = record { bytes = g.bytes; took = took; puts = record { quads = was_put.quads ++ h.more; holds = h.holds.sure; lines = h.lines was_put.lines } }
+
+      end_whole : ReadsWhole s t2 l0 l2 w2
+      end_whole = record { bytes = g.bytes; took = took; none_left = none_left l1 l2 l none; quads = was_put.quads ++ h.more; document = h.holds; lines = h.lines was_put.lines }
+
+    cut_is : (x : Stop) → is_cut (Err (read_stop_for x)) ≡ is_out_fault x
+    cut_is (stops.Refused fault) = refl
+    cut_is stops.OutFault = refl
+    cut_is stops.NoMemory = refl
+
+    end_stops : (x : Stop) → EndCause s g.bytes x → StopsFor s (read_stop_for x) t2 l0 l2 true
+    end_stops (stops.Refused fault) c = record { bytes = g.bytes; took = took; is_fault = at_end (record { refusal = c; ended = refl; none_left = none_left l1 l2 l none }) }
+    end_stops stops.OutFault c = tt
+    end_stops stops.NoMemory c = tt
+
+    end_err : (x : Stop) → EndedLines s g.bytes was_put.quads x w1 w2 → AnswersRun s (Err (read_stop_for x)) t2 l0 l2 w2 true
+    end_err x h = record {
+      whole = tt;
+      ended = tt;
+      stops = end_stops x h.cause;
+      lines = record { bytes = g.bytes; took = took; puts = subst (λ c. PutsLines (AreSure s g.bytes) c w2) (sym (cut_is x)) (h.puts was_put.lines) };
     }
-end_whole reader block t1 t2 l0 l1 l2 w1 count (Err stop) g t l none e = tt
 
-end_fault : (code : Code) (at : ℕ) (bytes : List ℕ) (left : Option (List ℕ)) → NoneLeft left → EndCauseFor bytes code at → IsFault code at bytes true left
-end_fault Truncated at bytes left none h = record { truncated = h; ended = refl; none_left = none }
-end_fault NotYet at bytes left none h = inr (record { outside = h; ended = refl; none_left = none })
-end_fault _ at bytes left none h = absurd h
+    -- the answer at the end
+    end_true : (result : Result (Unit {0}) ReadStop) → EndsRun result e1 w1 w2 → AnswersRun s result t2 l0 l2 w2 true
+    end_true (Ok u) e = let h = e s g.bytes was_put.quads was_put.stands in record { whole = end_whole h; ended = refl; stops = tt; lines = end_lines h }
+    end_true (Err stop) e = subst (λ x. AnswersRun s (Err x) t2 l0 l2 w2 true) (sym e.1) (end_err e.0 (e.2 s g.bytes was_put.quads was_put.stands))
 
-end_stop : (s : Stop) (reader : FlatReader) (block : Block) (t1 t2 l0 l1 l2 w1 : Option (List ℕ)) (count : ℕ) → Going reader block t1 l0 l1 w1 count → t2 ≡ appended t1 [] → Leaves l1 [] l2 → NoneLeft l1
-    → ((bytes : List ℕ) (quads : List Parts) → HasRead bytes quads reader → EndCause bytes s) → StopsFor (read_stop_for s) t2 l0 l2 true
-end_stop (stops.Refused fault) reader block t1 t2 l0 l1 l2 w1 count g t l none e =
-    record { bytes = g.bytes; took = took_end g.bytes t1 t2 l0 l1 l2 g.took t l; fault = end_fault fault.code fault.at g.bytes l2 (none_left l1 l2 l none) (e g.bytes g.quads g.read) }
-end_stop stops.OutFault reader block t1 t2 l0 l1 l2 w1 count g t l none e = tt
-end_stop stops.NoMemory reader block t1 t2 l0 l1 l2 w1 count g t l none e = tt
+    pub end_answers : (result : Result (Unit {0}) ReadStop) (told_end : Bool) → told_end ≡ true → EndsRun result e1 w1 w2 → AnswersRun s result t2 l0 l2 w2 told_end
+    end_answers result told_end ended e = subst (λ b. AnswersRun s result t2 l0 l2 w2 b) (sym ended) (end_true result e)
 
--- the end of one that isn't
-pub end_stops : (reader : FlatReader) (block : Block) (t1 t2 l0 l1 l2 w1 : Option (List ℕ)) (count : ℕ) (result : Result (Unit {0}) ReadStop) (told_end : Bool) → told_end ≡ true → Going reader block t1 l0 l1 w1 count → t2 ≡ appended t1 [] → Leaves l1 [] l2
-    → NoneLeft l1 → EndsRun reader result → StopsRun result t2 l0 l2 told_end
-end_stops reader block t1 t2 l0 l1 l2 w1 count (Ok u) told_end ended g t l none e = tt
-end_stops reader block t1 t2 l0 l1 l2 w1 count (Err stop) told_end ended g t l none e =
-    subst (λ b. StopsFor stop t2 l0 l2 b) (sym ended) (subst (λ s. StopsFor s t2 l0 l2 true) (sym e.1) (end_stop e.0 reader block t1 t2 l0 l1 l2 w1 count g t l none e.2))
+  -- the answer where taking failed
+  pub take_answers : (t2 l2 w2 : Option (List ℕ)) (told_end : Bool) → t2 ≡ t1 → l2 ≡ l1 → w2 ≡ w1 → AnswersRun s (Err TakeFault) t2 l0 l2 w2 told_end
+  take_answers t2 l2 w2 told_end t l w =
+      subst (λ x. AnswersRun s (Err TakeFault) t2 l0 l2 x told_end) (sym w) (subst (λ x. AnswersRun s (Err TakeFault) t2 l0 x w1 told_end) (sym l) (subst (λ x. AnswersRun s (Err TakeFault) x l0 l1 w1 told_end) (sym t)
+      (record { whole = tt; ended = tt; stops = tt; lines = going_lines })))
 
-end_no_cut : (s : Stop) (bytes : List ℕ) → EndCause bytes s → is_cut (Err (read_stop_for s)) ≡ false
-end_no_cut (stops.Refused fault) bytes h = refl
-end_no_cut stops.NoMemory bytes h = refl
-end_no_cut stops.OutFault bytes h = absurd h
+  -- ---- a piece that stops the run
 
--- what has been put is sure
-pub going_lines : (reader : FlatReader) (block : Block) (t1 l0 l1 w1 : Option (List ℕ)) (count : ℕ) → Going reader block t1 l0 l1 w1 count → LinesAreSure false t1 l0 l1 w1
-going_lines reader block t1 l0 l1 w1 count g = record { bytes = g.bytes; took = g.took; puts = record { quads = g.quads; sure = read_sure g.bytes g.quads reader g.read; lines = g.lines } }
+  module _ (t2 l2 w2 : Option (List ℕ)) (piece : List ℕ) (e2 : EngineState) (t : t2 ≡ appended t1 piece) (l : Leaves l1 piece l2) (told_end : Bool) where
+    took_piece : Took (g.bytes ++ piece) t2 l0 l2
+    took_piece = took_more g.bytes piece t1 t2 l0 l1 l2 g.took t l
 
-end_uncut : (reader : FlatReader) (result : Result (Unit {0}) ReadStop) (bytes : List ℕ) (quads : List Parts) → HasRead bytes quads reader → EndsRun reader result → is_cut result ≡ false
-end_uncut reader (Ok u) bytes quads h e = refl
-end_uncut reader (Err stop) bytes quads h e = ap (λ s. is_cut (Err s)) e.1 ∙ end_no_cut e.0 bytes (e.2 bytes quads h)
+    piece_refused : (fault : Fault) (long : Bool) → (long ≡ true → 2 ^ 40 < length (g.bytes ++ piece)) → StopCause s (g.bytes ++ piece) (stops.Refused fault)
+        → StopsFor s (elim long [ true ↦ TooLong | false ↦ Refused fault ]) t2 l0 l2 told_end
+    piece_refused fault true many c = record { bytes = g.bytes ++ piece; took = took_piece; too_many = many refl }
+    piece_refused fault false many c = record { bytes = g.bytes ++ piece; took = took_piece; is_fault = in_bytes c }
 
-pub end_lines : (reader : FlatReader) (block : Block) (t1 t2 l0 l1 l2 w1 : Option (List ℕ)) (count : ℕ) (result : Result (Unit {0}) ReadStop) → Going reader block t1 l0 l1 w1 count → t2 ≡ appended t1 [] → Leaves l1 [] l2 → EndsRun reader result → AnswersLines result t2 l0 l2 w1
-end_lines reader block t1 t2 l0 l1 l2 w1 count result g t l e =
-    subst (λ c. LinesAreSure c t2 l0 l2 w1) (sym (end_uncut reader result g.bytes g.quads g.read e))
-    (record { bytes = g.bytes; took = took_end g.bytes t1 t2 l0 l1 l2 g.took t l; puts = record { quads = g.quads; sure = read_sure g.bytes g.quads reader g.read; lines = g.lines } })
+    piece_stops : (x : Stop) → e2.bytes ≤ length (g.bytes ++ piece) → StopCause s (g.bytes ++ piece) x → StopsFor s (piece_stop_for x e2.bytes) t2 l0 l2 told_end
+    piece_stops (stops.Refused fault) count c =
+        piece_refused fault (nat_lt (2 ^ 40) e2.bytes) (λ e. let long : 2 ^ 40 < e2.bytes = ltb-true (2 ^ 40) e2.bytes e in omega arith) c
+    piece_stops stops.OutFault count c = tt
+    piece_stops stops.NoMemory count c = tt
 
--- a byte of the piece is refused
-refused_fault : (code : Code) (at : ℕ) (bytes : List ℕ) (told_end : Bool) (left : Option (List ℕ)) → RefusalFor bytes code at → IsFault code at bytes told_end left
-refused_fault NotYet at bytes told_end left h = inl h
-refused_fault TooLong at bytes told_end left h =
-    let long : length bytes ≡ length h.front + (length h.back + 1) = ap length h.bytes_are ∙ length-append h.front (h.byte ∷ h.back) ∙ omega arith in
-    let full : length h.front ≡ 2 ^ 40 = h.full in
-    omega arith
-refused_fault Truncated at bytes told_end left h = absurd h.breaks.code
-refused_fault _ at bytes told_end left h = h
+    piece_cut : (x : Stop) → is_cut (Err (piece_stop_for x e2.bytes)) ≡ is_out_fault x
+    piece_cut (stops.Refused fault) = by (nat_lt (2 ^ 40) e2.bytes)
+      where
+        by : (b : Bool) → is_cut (Err (elim b [ true ↦ TooLong | false ↦ Refused fault ])) ≡ false
+        by true = refl
+        by false = refl
+    piece_cut stops.OutFault = refl
+    piece_cut stops.NoMemory = refl
 
-stop_for_piece : (s : Stop) (bytes piece : List ℕ) (t2 l0 l2 : Option (List ℕ)) (told_end : Bool) → Took (bytes ++ piece) t2 l0 l2 → StopCause (bytes ++ piece) s → StopsFor (read_stop_for s) t2 l0 l2 told_end
-stop_for_piece (stops.Refused fault) bytes piece t2 l0 l2 told_end took c = record { bytes = bytes ++ piece; took = took; fault = refused_fault fault.code fault.at (bytes ++ piece) told_end l2 c }
-stop_for_piece stops.OutFault bytes piece t2 l0 l2 told_end took c = tt
-stop_for_piece stops.NoMemory bytes piece t2 l0 l2 told_end took c = tt
+    -- the answer where a piece stopped the run
+    pub piece_answers : (x : Stop) (stop : ReadStop) → ((bytes : List ℕ) (quads : List Parts) → Stands s bytes quads e1 → StoppedLines s bytes quads piece x e2 w1 w2) → stop ≡ piece_stop_for x e2.bytes → AnswersRun s (Err stop) t2 l0 l2 w2 told_end
+    piece_answers x stop stopped e =
+        let h = stopped g.bytes was_put.quads was_put.stands in
+        let puts = h.puts was_put.lines in
+        let after : AnswersRun s (Err (piece_stop_for x e2.bytes)) t2 l0 l2 w2 told_end = record {
+          whole = tt;
+          ended = tt;
+          stops = piece_stops x h.count h.cause;
+          lines = record {
+            bytes = g.bytes ++ piece;
+            took = took_piece;
+            puts = subst (λ c. PutsLines (AreSure s (g.bytes ++ piece)) c w2) (sym (piece_cut x)) puts;
+          };
+        } in
+        subst (λ r. AnswersRun s (Err r) t2 l0 l2 w2 told_end) (sym e) after
 
--- a piece stops the run
-pub piece_stops : (reader : FlatReader) (block : Block) (t1 t2 l0 l1 l2 w1 w2 : Option (List ℕ)) (count : ℕ) (piece : List ℕ) (s : Stop) (stop : ReadStop) (told_end : Bool) → (g : Going reader block t1 l0 l1 w1 count) → t2 ≡ appended t1 piece → Leaves l1 piece l2
-    → StoppedLines g.bytes g.quads piece s w1 w2 → stop ≡ read_stop_for s → StopsFor stop t2 l0 l2 told_end
-piece_stops reader block t1 t2 l0 l1 l2 w1 w2 count piece s stop told_end g t l h e =
-    subst (λ x. StopsFor x t2 l0 l2 told_end) (sym e) (stop_for_piece s g.bytes piece t2 l0 l2 told_end (took_more g.bytes piece t1 t2 l0 l1 l2 g.took t l) h.cause)
+  -- the answer after more bytes than may be read
+  pub long_answers : (told_end : Bool) → 2 ^ 40 < count → AnswersRun s (Err TooLong) t1 l0 l1 w1 told_end
+  long_answers told_end many =
+      let same : count ≡ length g.bytes = g.many in
+      record { whole = tt; ended = tt; stops = record { bytes = g.bytes; took = g.took; too_many = omega arith }; lines = going_lines }
 
-cut_is : (s : Stop) → is_cut (Err (read_stop_for s)) ≡ is_out_fault s
-cut_is (stops.Refused fault) = refl
-cut_is stops.OutFault = refl
-cut_is stops.NoMemory = refl
-
-pub piece_lines : (reader : FlatReader) (block : Block) (t1 t2 l0 l1 l2 w1 w2 : Option (List ℕ)) (count : ℕ) (piece : List ℕ) (s : Stop) (stop : ReadStop) → (g : Going reader block t1 l0 l1 w1 count) → t2 ≡ appended t1 piece → Leaves l1 piece l2
-    → StoppedLines g.bytes g.quads piece s w1 w2 → stop ≡ read_stop_for s → AnswersLines (Err stop) t2 l0 l2 w2
-piece_lines reader block t1 t2 l0 l1 l2 w1 w2 count piece s stop g t l h e =
-    record { bytes = g.bytes ++ piece; took = took_more g.bytes piece t1 t2 l0 l1 l2 g.took t l; puts = subst (λ c. PutsLines (g.bytes ++ piece) c w2) (sym (ap (λ x. is_cut (Err x)) e ∙ cut_is s)) (h.puts g.lines) }
-
--- more bytes than may be read
-pub long_stop : (reader : FlatReader) (block : Block) (t1 l0 l1 w1 : Option (List ℕ)) (count : ℕ) (told_end : Bool) → 2 ^ 40 < count → Going reader block t1 l0 l1 w1 count → HasFault TooLong (2 ^ 40) t1 l0 l1 told_end
-long_stop reader block t1 l0 l1 w1 count told_end many g = record { bytes = g.bytes; took = g.took; fault = (let h : count ≡ length g.bytes = g.many in omega arith) }
-
-end_told : (reader : FlatReader) (result : Result (Unit {0}) ReadStop) (told_end : Bool) → told_end ≡ true → OnOk result (told_end ≡ true)
-end_told reader (Ok u) told_end e = e
-end_told reader (Err stop) told_end e = tt
-
--- the answer at the end
-pub end_answers : (reader : FlatReader) (block : Block) (t1 t2 l0 l1 l2 w1 w2 : Option (List ℕ)) (count : ℕ) (result : Result (Unit {0}) ReadStop) (told_end : Bool) → told_end ≡ true → Going reader block t1 l0 l1 w1 count → t2 ≡ appended t1 [] → Leaves l1 [] l2
-    → NoneLeft l1 → w2 ≡ w1 → EndsRun reader result → AnswersRun result t2 l0 l2 w2 told_end
-end_answers reader block t1 t2 l0 l1 l2 w1 w2 count result told_end ended g t l none w e =
-    subst (λ x. AnswersRun result t2 l0 l2 x told_end) (sym w) (record {
-      whole = end_whole reader block t1 t2 l0 l1 l2 w1 count result g t l none e;
-      ended = end_told reader result told_end ended;
-      stops = end_stops reader block t1 t2 l0 l1 l2 w1 count result told_end ended g t l none e;
-      lines = end_lines reader block t1 t2 l0 l1 l2 w1 count result g t l e;
-    })
-
--- the answer where taking failed
-pub take_answers : (reader : FlatReader) (block : Block) (t1 t2 l0 l1 l2 w1 w2 : Option (List ℕ)) (count : ℕ) (told_end : Bool) → Going reader block t1 l0 l1 w1 count → t2 ≡ t1 → l2 ≡ l1 → w2 ≡ w1 → AnswersRun (Err TakeFault) t2 l0 l2 w2 told_end
-take_answers reader block t1 t2 l0 l1 l2 w1 w2 count told_end g t l w =
-    subst (λ x. AnswersRun (Err TakeFault) t2 l0 l2 x told_end) (sym w) (subst (λ x. AnswersRun (Err TakeFault) t2 l0 x w1 told_end) (sym l) (subst (λ x. AnswersRun (Err TakeFault) x l0 l1 w1 told_end) (sym t)
-    (record { whole = tt; ended = tt; stops = tt; lines = going_lines reader block t1 l0 l1 w1 count g })))
-
--- the answer where a piece stopped the run
-pub piece_answers : (reader : FlatReader) (block : Block) (t1 t2 l0 l1 l2 w1 w2 : Option (List ℕ)) (count : ℕ) (piece : List ℕ) (s : Stop) (stop : ReadStop) (told_end : Bool) → (g : Going reader block t1 l0 l1 w1 count) → t2 ≡ appended t1 piece → Leaves l1 piece l2
-    → StoppedLines g.bytes g.quads piece s w1 w2 → stop ≡ read_stop_for s → AnswersRun (Err stop) t2 l0 l2 w2 told_end
-piece_answers reader block t1 t2 l0 l1 l2 w1 w2 count piece s stop told_end g t l h e = record {
-  whole = tt;
-  ended = tt;
-  stops = piece_stops reader block t1 t2 l0 l1 l2 w1 w2 count piece s stop told_end g t l h e;
-  lines = piece_lines reader block t1 t2 l0 l1 l2 w1 w2 count piece s stop g t l h e;
-}
-
--- the answer after more bytes than may be read
-pub long_answers : (reader : FlatReader) (block : Block) (t1 l0 l1 w1 : Option (List ℕ)) (count : ℕ) (told_end : Bool) → 2 ^ 40 < count → Going reader block t1 l0 l1 w1 count → AnswersRun (Err (Refused (record { code = TooLong; at = 2 ^ 40 }))) t1 l0 l1 w1 told_end
-long_answers reader block t1 l0 l1 w1 count told_end many g =
-    record { whole = tt; ended = tt; stops = long_stop reader block t1 l0 l1 w1 count told_end many g; lines = going_lines reader block t1 l0 l1 w1 count g }
-
-sure_nothing : AreSure [] []
-sure_nothing rest all flat = (all, refl)
+sure_nothing : (s : Settings) → AreSure s [] []
+sure_nothing s rest t reads accepts built x has = absurd has
 
 -- nothing was put
-pub memory_lines : (t l w : Option (List ℕ)) → IsFresh t w → LinesAreSure false t l l w
-memory_lines t l w fresh = record { bytes = []; took = record { taken_is = fresh.none_taken; left_is = leaves_nil l }; puts = record { quads = []; sure = sure_nothing; lines = nothing_told w fresh.none_put } }
+pub memory_lines : (s : Settings) (t l w : Option (List ℕ)) → IsFresh t w → LinesAreSure s false t l l w
+memory_lines s t l w fresh =
+    record { bytes = []; took = record { taken_is = fresh.none_taken; left_is = leaves_nil l }; puts = record { quads = []; holds = sure_nothing s; lines = nothing_told w fresh.none_put } }
 
 -- no line was put
 pub no_lines : (t w : Option (List ℕ)) → IsFresh t w → CountsLines w 0
 no_lines t w fresh = nothing_counted w 0 fresh.none_put refl
 
 -- the answer before the first piece
-pub memory_answers : (t l w : Option (List ℕ)) (told_end : Bool) → IsFresh t w → AnswersRun (Err NoMemory) t l l w told_end
-memory_answers t l w told_end fresh = record { whole = tt; ended = tt; stops = tt; lines = memory_lines t l w fresh }
+pub memory_answers : (s : Settings) (t l w : Option (List ℕ)) (told_end : Bool) → IsFresh t w → AnswersRun s (Err NoMemory) t l l w told_end
+memory_answers s t l w told_end fresh = record { whole = tt; ended = tt; stops = tt; lines = memory_lines s t l w fresh }
 
 pub memory_counts : (w t : Option (List ℕ)) (block : Block) → IsFresh t w → IsEmptyBlock block → CountsLines w block.lines
 memory_counts w t block fresh empty = nothing_counted w block.lines fresh.none_put empty.no_lines
 
 -- so many bytes have been taken
-pub going_short : (reader : FlatReader) (block : Block) (t1 l0 l1 w1 : Option (List ℕ)) (count : ℕ) → Going reader block t1 l0 l1 w1 count → count ≤ 2 ^ 40 → (told : List ℕ) → t1 ≡ Some told → length told ≤ 2 ^ 40
-going_short reader block t1 l0 l1 w1 count g short told e =
+pub going_short : (e0 e1 : EngineState) (block : Block) (t1 l0 l1 w1 : Option (List ℕ)) (count : ℕ) → Going e0 e1 block t1 l0 l1 w1 count → count ≤ 2 ^ 40 → (told : List ℕ) → t1 ≡ Some told → length told ≤ 2 ^ 40
+going_short e0 e1 block t1 l0 l1 w1 count g short told e =
     let is : told ≡ g.bytes = subst (λ t. IfSome t (λ told. told ≡ g.bytes)) e g.took.taken_is in
     let many : count ≡ length g.bytes = g.many in
     let same : length told ≡ length g.bytes = ap length is in
@@ -239,12 +233,6 @@ going_short reader block t1 l0 l1 w1 count g short told e =
 pub rose_from : (m n o : ℕ) → m ≤ n → Rose n o → Rose m o
 rose_from m n o h k = let rose : min (n + 1) (2 ^ 64 - 1) ≤ o = k in omega arith
 
--- the end never answers that a call of the port failed
-end_no_fault : (s : Stop) (bytes : List ℕ) (fault : ReadStop) → (fault ≡ TakeFault) ⊎ (fault ≡ OutFault) → EndCause bytes s → read_stop_for s ≡ fault → ⊥
-end_no_fault (stops.Refused f) bytes fault k h e = elim k [ inl is ↦ let no : Refused f ≡ TakeFault = e ∙ is in cc | inr is ↦ let no : Refused f ≡ OutFault = e ∙ is in cc ]
-end_no_fault stops.NoMemory bytes fault k h e = elim k [ inl is ↦ let no : NoMemory ≡ TakeFault = e ∙ is in cc | inr is ↦ let no : NoMemory ≡ OutFault = e ∙ is in cc ]
-end_no_fault stops.OutFault bytes fault k h e = h
-
 -- two errors that are the same
 pub err_of : (a b : ReadStop) → IsErrOf {T = Unit {0}} (Err a) b → a ≡ b
 err_of a b e = cc
@@ -252,17 +240,29 @@ err_of a b e = cc
 pub not_out : IsErrOf {T = Unit {0}} (Err TakeFault) OutFault → ⊥
 not_out e = let no : TakeFault ≡ OutFault = err_of TakeFault OutFault e in cc
 
-pub end_not : (reader : FlatReader) (result : Result (Unit {0}) ReadStop) (bytes : List ℕ) (quads : List Parts) (fault : ReadStop) → (fault ≡ TakeFault) ⊎ (fault ≡ OutFault) → HasRead bytes quads reader → EndsRun reader result → IsErrOf result fault → ⊥
-end_not reader (Ok u) bytes quads fault k h e is = cc
-end_not reader (Err stop) bytes quads fault k h e is = end_no_fault e.0 bytes fault k (e.2 bytes quads h) (sym e.1 ∙ err_of stop fault is)
-
--- the piece's stop is the out's where the answer is
-pub out_fault_from : (s : Stop) → read_stop_for s ≡ OutFault → s ≡ stops.OutFault
+-- the stop is the out's where the answer is
+pub out_fault_from : (x : Stop) → read_stop_for x ≡ OutFault → x ≡ stops.OutFault
 out_fault_from (stops.Refused f) e = cc
 out_fault_from stops.OutFault e = refl
 out_fault_from stops.NoMemory e = cc
 
-pub no_take_fault : (s : Stop) → read_stop_for s ≡ TakeFault → ⊥
+pub no_take_fault : (x : Stop) → read_stop_for x ≡ TakeFault → ⊥
 no_take_fault (stops.Refused f) e = cc
 no_take_fault stops.OutFault e = cc
 no_take_fault stops.NoMemory e = cc
+
+refused_other : (f : Fault) (b : Bool) (other : ReadStop) → (other ≡ OutFault) ⊎ (other ≡ TakeFault) → ◌≡◌ {A = ReadStop} (elim b [ true ↦ TooLong | false ↦ Refused f ]) other → ⊥
+refused_other f true other (inl e) h = let no : TooLong ≡ OutFault = h ∙ e in cc
+refused_other f true other (inr e) h = let no : TooLong ≡ TakeFault = h ∙ e in cc
+refused_other f false other (inl e) h = let no : Refused f ≡ OutFault = h ∙ e in cc
+refused_other f false other (inr e) h = let no : Refused f ≡ TakeFault = h ∙ e in cc
+
+pub piece_fault_from : (x : Stop) (bytes : ℕ) → piece_stop_for x bytes ≡ OutFault → x ≡ stops.OutFault
+piece_fault_from (stops.Refused f) bytes e = absurd (refused_other f (nat_lt (2 ^ 40) bytes) OutFault (inl refl) e)
+piece_fault_from stops.OutFault bytes e = refl
+piece_fault_from stops.NoMemory bytes e = cc
+
+pub piece_take_fault : (x : Stop) (bytes : ℕ) → piece_stop_for x bytes ≡ TakeFault → ⊥
+piece_take_fault (stops.Refused f) bytes e = refused_other f (nat_lt (2 ^ 40) bytes) TakeFault (inr refl) e
+piece_take_fault stops.OutFault bytes e = cc
+piece_take_fault stops.NoMemory bytes e = cc

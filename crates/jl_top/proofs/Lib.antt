@@ -1,11 +1,10 @@
 pub mod Handing
-pub mod Puttings
-pub mod Saying
-pub mod FlatTokens
-pub mod Leading
-pub mod Sure
-pub mod Feeding
+pub mod Splitting
+pub mod Options
 pub mod LineFronts
+pub mod SureQuads
 pub mod PieceLines
 pub mod Going
 pub mod Reporting
+pub mod Commands
+pub mod DueLines

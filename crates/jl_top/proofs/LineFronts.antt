@@ -6,7 +6,6 @@ use Rattle.jl_model.specs.Parts.{Parts}
 use Rattle.jl_model.specs.declared.terms.Term.TheVariants.{Blank}
 use Rattle.jl_nquads.specs.LineOuts.{IsCut, AreLines, TellsLines}
 use Rattle.jl_top.specs.Pieces.{PutsLines}
-use Rattle.jl_top.specs.Reading.{AreSure}
 
 -- two texts of which both are fronts: the second is a front of the first, or goes on behind it
 pub data Fronts (xs ys cs ds : List ℕ) : Type 0 where
@@ -88,14 +87,14 @@ pub tells_lax : (failed : Bool) (quads : List Parts) (bytes : List ℕ) → Tell
 tells_lax true quads bytes h = h
 tells_lax false quads bytes h = whole_lines quads bytes h
 
--- what is sure of some quads is sure of the first of them
-pub sure_front : (bytes : List ℕ) (front back : List Parts) → AreSure bytes (front ++ back) → AreSure bytes front
-sure_front bytes front back sure rest all flat = let s = sure rest all flat in (back ++ s.0, s.1 ∙ append_assoc front back s.0)
+-- what holds of some quads holds of the first of them
+abbrev pub IsClosed : (List Parts → Type 0) → Type 0
+IsClosed Holds = (front back : List Parts) → Holds (front ++ back) → Holds front
 
 -- a part of what is held was handed on
-pub puts_front : (bytes : List ℕ) (failed : Bool) (put : Option (List ℕ)) (held : List ℕ) → PutsLines bytes failed (appended put held) → PutsLines bytes true put
-puts_front bytes failed None held h = record { quads = h.quads; sure = h.sure; lines = tt }
-puts_front bytes failed (Some w) held h =
+pub puts_front : (Holds : List Parts → Type 0) (failed : Bool) (put : Option (List ℕ)) (held : List ℕ) → IsClosed Holds → PutsLines Holds failed (appended put held) → PutsLines Holds true put
+puts_front Holds failed None held closed h = record { quads = h.quads; holds = h.holds; lines = tt }
+puts_front Holds failed (Some w) held closed h =
     let told : AreLines h.quads (w ++ held) = tells_lax failed h.quads (w ++ held) h.lines in
     let f = front_lines h.quads w held told.cut told.bytes_are told.is_cut in
-    record { quads = f.front; sure = sure_front bytes f.front f.back (subst (λ q. AreSure bytes q) f.quads_are h.sure); lines = f.lines }
+    record { quads = f.front; holds = closed f.front f.back (subst Holds f.quads_are h.holds); lines = f.lines }

@@ -1,21 +1,23 @@
--- The lines that a piece puts.
-use Rattle.std.proofs.Common.{◌≡◌, ◌⊎◌, inl, inr, ℕ, ◌+◌, ◌-◌, ◌^◌, ◌≤◌, min, Bool, true, false, List, [], ◌∷◌, ◌++◌, filter, Option, Some, None, Result, Err, IfErr, refl, sym, ap, ◌∙◌, subst, arith}
+-- The lines that a piece puts, and the end.
+use Rattle.std.proofs.Common.{◌≡◌, ◌⊎◌, inl, inr, ℕ, ◌+◌, ◌-◌, ◌^◌, ◌≤◌, min, Bool, true, false, List, [], ◌∷◌, ◌++◌, length, filter, Option, Some, None, Result, Err, IfErr, refl, sym, ap, ◌∙◌, subst, arith, append_assoc, length-append}
 use Rattle.std.specs.Option.{IfSome}
 use Rattle.jl_io.specs.Outside.{appended}
 use Rattle.jl_model.specs.Causes.{Rose}
 use Rattle.jl_model.specs.Parts.{Parts}
-use Rattle.jl_top.specs.Blocks.{HandsOn, held_of}
+use Rattle.jl_defs.specs.Settings.{Settings}
+use Rattle.jl_engine.specs.Standing.{Stands, AreSure, WerePut, Fed, Stopped, Finished, StoppedAtEnd, Cause, EndCause}
+use Rattle.jl_engine.specs.declared.engines.EngineState.{EngineState}
+use Rattle.jl_engine.specs.declared.stops.Stop.{Stop}
+use Rattle.jl_engine.specs.declared.stops.Stop.TheVariants.{Refused, OutFault, NoMemory}
 use Rattle.jl_nquads.specs.LineOuts.{TellsLines}
-use Rattle.jl_top.specs.Pieces.{PutsLines, FedLines, StoppedLines, StopsWithLines, is_out_fault}
-use Rattle.jl_top.specs.Reading.{HasRead, WerePut, Fed, Stopped}
-use Rattle.jl_top.specs.declared.blocks.Block.{Block}
-use Rattle.jl_top.specs.declared.flat_readers.FlatReader.{FlatReader}
-use Rattle.jl_top.specs.declared.stops.Stop.{Stop}
-use Rattle.jl_top.specs.declared.stops.Stop.TheVariants.{Refused, OutFault, NoMemory}
-use Rattle.jl_top.proofs.Feeding.{read_sure}
 use Rattle.jl_nquads.proofs.Fronts.{appended-nil}
+use Rattle.jl_top.specs.Blocks.{HandsOn, held_of}
+use Rattle.jl_top.specs.Pieces.{IsRead, PutsLines, AddsLines, StopCause, FedLines, StoppedLines, FinishedLines, EndedLines, StopsWithLines, EndsWithLines, is_out_fault}
+use Rattle.jl_top.specs.declared.blocks.Block.{Block}
 use Rattle.jl_top.proofs.Handing.{hands_same}
-use Rattle.jl_top.proofs.LineFronts.{tells_lax, puts_front}
+use Rattle.jl_top.proofs.LineFronts.{IsClosed, tells_lax, puts_front}
+use Rattle.jl_engine.proofs.Bytes.{sure-now}
+use Rattle.jl_top.proofs.SureQuads.{sure_front, sure_longer}
 
 filter_all : (quads : List Parts) → filter (λ _. true) quads ≡ quads
 filter_all [] = refl
@@ -25,126 +27,180 @@ filter_all (q ∷ quads) = ap (λ t. q ∷ t) (filter_all quads)
 abbrev pub Told : Option (List ℕ) → Bool → List Parts → Type 0
 Told put failed quads = IfSome put (TellsLines failed quads)
 
-told_more : (w0 w1 : Option (List ℕ)) (f0 f1 : Bool) (quads more : List Parts) → WerePut (Told w0 f0) (Told w1 f1) (λ _. true) more → Told w0 f0 quads → Told w1 f1 (quads ++ more)
-told_more w0 w1 f0 f1 quads more put told = subst (λ m. Told w1 f1 (quads ++ m)) (filter_all more) (put quads told)
-
 lax : (w : Option (List ℕ)) (failed : Bool) (quads : List Parts) → Told w failed quads → Told w true quads
 lax None failed quads h = tt
 lax (Some w) failed quads h = tells_lax failed quads w h
 
--- a piece was read, and no line failed
-pub fed_lines : (bytes : List ℕ) (quads : List Parts) (piece : List ℕ) (reader : FlatReader) (w0 w1 : Option (List ℕ)) (f0 f1 : Bool) → f0 ≡ false → f1 ≡ false → Fed bytes quads piece reader (Told w0 f0) (Told w1 f1) (λ _. true)
-    → FedLines bytes quads piece reader w0 w1
-fed_lines bytes quads piece reader w0 w1 f0 f1 e0 e1 fed =
-    record {
-      more = fed.more;
-      read = fed.read;
-      lines = λ told. subst (λ f. Told w1 f (quads ++ fed.more)) e1 (told_more w0 w1 f0 f1 quads fed.more fed.put (subst (λ f. Told w0 f quads) (sym e0) told));
+told_by : (w : Option (List ℕ)) (stop : Stop) (quads : List Parts) → Told w false quads → Told w (is_out_fault stop) quads
+told_by w (Refused fault) quads h = h
+told_by w OutFault quads h = lax w false quads h
+told_by w NoMemory quads h = h
+
+-- ---- what an engine put through an out of lines
+
+module _ (Holds : List Parts → Type 0) (quads more : List Parts) (w0 w1 : Option (List ℕ)) (f0 f1 : Bool) (unfailed : f0 ≡ false) (holds : Holds (quads ++ more)) (put : WerePut (Told w0 f0) (Told w1 f1) (λ _. true) more) where
+  told_more : Told w0 false quads → Told w1 f1 (quads ++ more)
+  told_more told = subst (λ m. Told w1 f1 (quads ++ m)) (filter_all more) (put quads (subst (λ f. Told w0 f quads) (sym unfailed) told))
+
+  pub adds_lines : f1 ≡ false → AddsLines Holds quads w0 w1
+  adds_lines e = record { more = more; holds = holds; lines = λ told. subst (λ f. Told w1 f (quads ++ more)) e (told_more told) }
+
+  pub puts_by : (stop : Stop) → f1 ≡ false → Told w0 false quads → PutsLines Holds (is_out_fault stop) w1
+  puts_by stop e told = record { quads = quads ++ more; holds = holds; lines = told_by w1 stop (quads ++ more) (subst (λ f. Told w1 f (quads ++ more)) e (told_more told)) }
+
+  pub puts_lax : Told w0 false quads → PutsLines Holds true w1
+  puts_lax told = record { quads = quads ++ more; holds = holds; lines = lax w1 f1 (quads ++ more) (told_more told) }
+
+front_cause : (s : Settings) (bytes front back : List ℕ) (stop : Stop) → bytes ≡ front ++ back → Cause s front stop → StopCause s bytes stop
+front_cause s bytes front back (Refused fault) e c = record { front = front; back = back; bytes_are = e; refusal = c }
+front_cause s bytes front back OutFault e c = tt
+front_cause s bytes front back NoMemory e c = tt
+
+module _ (s : Settings) (bytes : List ℕ) (quads : List Parts) (w0 w1 : Option (List ℕ)) (f0 f1 : Bool) (unfailed : f0 ≡ false) where
+  -- a piece was read, and no line failed
+  pub fed_lines : (piece : List ℕ) (e : EngineState) → f1 ≡ false → Fed s bytes quads piece e (Told w0 f0) (Told w1 f1) (λ _. true) → FedLines s bytes quads piece e w0 w1
+  fed_lines piece e whole fed = adds_lines (λ all. Stands s (bytes ++ piece) all e) quads fed.more w0 w1 f0 f1 unfailed fed.stands fed.put whole
+
+  -- a line failed, whatever was answered
+  pub failed_fed : (piece : List ℕ) (e : EngineState) → Fed s bytes quads piece e (Told w0 f0) (Told w1 f1) (λ _. true) → StoppedLines s bytes quads piece OutFault e w0 w1
+  failed_fed piece e fed =
+      let count : e.bytes ≡ length (bytes ++ piece) = fed.stands.count in
+      let sure = sure-now s (bytes ++ piece) (quads ++ fed.more) e fed.stands in
+      record { cause = tt; count = omega arith; puts = puts_lax (AreSure s (bytes ++ piece)) quads fed.more w0 w1 f0 f1 unfailed sure fed.put }
+
+  module _ (piece : List ℕ) (stop : Stop) (e : EngineState) (h : Stopped s bytes quads piece stop e (Told w0 f0) (Told w1 f1) (λ _. true)) where
+    split : bytes ++ piece ≡ (bytes ++ h.front) ++ h.back
+    split = ap (λ p. bytes ++ p) h.piece_is ∙ sym (append_assoc bytes h.front h.back)
+
+    sure : AreSure s (bytes ++ piece) (quads ++ h.more)
+    sure = sure_longer s (bytes ++ piece) (bytes ++ h.front) h.back (quads ++ h.more) split h.sure
+
+    count : e.bytes ≤ length (bytes ++ piece)
+    count =
+        let fed : e.bytes ≡ length (bytes ++ h.front) = h.count in
+        let longer : length (bytes ++ piece) ≡ length (bytes ++ h.front) + length h.back = ap length split ∙ length-append (bytes ++ h.front) h.back in
+        omega arith
+
+    -- a piece stopped the reading, and no line failed
+    pub stopped_lines : f1 ≡ false → StoppedLines s bytes quads piece stop e w0 w1
+    stopped_lines whole = record {
+      cause = front_cause s (bytes ++ piece) (bytes ++ h.front) h.back stop split h.cause;
+      count = count;
+      puts = puts_by (AreSure s (bytes ++ piece)) quads h.more w0 w1 f0 f1 unfailed sure h.put stop whole;
     }
 
-fault_told : (w : Option (List ℕ)) (stop : Stop) (quads : List Parts) → Told w false quads → Told w (is_out_fault stop) quads
-fault_told w (Refused fault) quads h = h
-fault_told w OutFault quads h = lax w false quads h
-fault_told w NoMemory quads h = h
+    pub failed_stopped : StoppedLines s bytes quads piece OutFault e w0 w1
+    failed_stopped = record { cause = tt; count = count; puts = puts_lax (AreSure s (bytes ++ piece)) quads h.more w0 w1 f0 f1 unfailed sure h.put }
 
--- a piece stopped the reading, and no line failed
-pub stopped_lines : (bytes : List ℕ) (quads : List Parts) (piece : List ℕ) (stop : Stop) (w0 w1 : Option (List ℕ)) (f0 f1 : Bool) → f0 ≡ false → f1 ≡ false → Stopped bytes quads piece stop (Told w0 f0) (Told w1 f1) (λ _. true)
-    → StoppedLines bytes quads piece stop w0 w1
-stopped_lines bytes quads piece stop w0 w1 f0 f1 e0 e1 s =
-    record {
-      cause = s.cause;
-      puts = λ told. record {
-        quads = quads ++ s.more;
-        sure = s.sure;
-        lines = fault_told w1 stop (quads ++ s.more) (subst (λ f. Told w1 f (quads ++ s.more)) e1 (told_more w0 w1 f0 f1 quads s.more s.put (subst (λ f. Told w0 f quads) (sym e0) told)));
-      };
-    }
+  read_of : (h : Finished s bytes quads (Told w0 f0) (Told w1 f1) (λ _. true)) → IsRead s bytes (quads ++ h.more)
+  read_of h = record { tree = h.tree; reads = h.reads; accepted = h.accepted; built = h.built; quads_are = h.quads_are; sure = h.sure }
 
--- a line failed, whatever was answered
-pub failed_fed : (bytes : List ℕ) (quads : List Parts) (piece : List ℕ) (reader : FlatReader) (w0 w1 : Option (List ℕ)) (f0 f1 : Bool) → f0 ≡ false → Fed bytes quads piece reader (Told w0 f0) (Told w1 f1) (λ _. true)
-    → StoppedLines bytes quads piece OutFault w0 w1
-failed_fed bytes quads piece reader w0 w1 f0 f1 e0 fed =
-    record {
-      cause = tt;
-      puts = λ told. record {
-        quads = quads ++ fed.more;
-        sure = read_sure (bytes ++ piece) (quads ++ fed.more) reader fed.read;
-        lines = lax w1 f1 (quads ++ fed.more) (told_more w0 w1 f0 f1 quads fed.more fed.put (subst (λ f. Told w0 f quads) (sym e0) told));
-      };
-    }
+  -- the end was read, and no line failed
+  pub finished_lines : f1 ≡ false → Finished s bytes quads (Told w0 f0) (Told w1 f1) (λ _. true) → FinishedLines s bytes quads w0 w1
+  finished_lines whole h = adds_lines (IsRead s bytes) quads h.more w0 w1 f0 f1 unfailed (read_of h) h.put whole
 
-pub failed_stopped : (bytes : List ℕ) (quads : List Parts) (piece : List ℕ) (stop : Stop) (w0 w1 : Option (List ℕ)) (f0 f1 : Bool) → f0 ≡ false → Stopped bytes quads piece stop (Told w0 f0) (Told w1 f1) (λ _. true)
-    → StoppedLines bytes quads piece OutFault w0 w1
-failed_stopped bytes quads piece stop w0 w1 f0 f1 e0 s =
-    record {
-      cause = tt;
-      puts = λ told. record {
-        quads = quads ++ s.more;
-        sure = s.sure;
-        lines = lax w1 f1 (quads ++ s.more) (told_more w0 w1 f0 f1 quads s.more s.put (subst (λ f. Told w0 f quads) (sym e0) told));
-      };
-    }
+  pub failed_finished : Finished s bytes quads (Told w0 f0) (Told w1 f1) (λ _. true) → EndedLines s bytes quads OutFault w0 w1
+  failed_finished h = record { cause = tt; puts = puts_lax (AreSure s bytes) quads h.more w0 w1 f0 f1 unfailed h.sure h.put }
+
+  -- the end stopped the reading
+  pub ended_lines : (stop : Stop) → f1 ≡ false → StoppedAtEnd s bytes quads stop (Told w0 f0) (Told w1 f1) (λ _. true) → EndedLines s bytes quads stop w0 w1
+  ended_lines stop whole h = record { cause = h.cause; puts = puts_by (AreSure s bytes) quads h.more w0 w1 f0 f1 unfailed h.sure h.put stop whole }
+
+  pub failed_ended : (stop : Stop) → StoppedAtEnd s bytes quads stop (Told w0 f0) (Told w1 f1) (λ _. true) → EndedLines s bytes quads OutFault w0 w1
+  failed_ended stop h = record { cause = tt; puts = puts_lax (AreSure s bytes) quads h.more w0 w1 f0 f1 unfailed h.sure h.put }
+
+-- ---- what is handed on
 
 -- what was told of the bytes put and held is told of those put, where none is held
 pub none_held : (w : Option (List ℕ)) (block : Block) → held_of block ≡ [] → appended w (held_of block) ≡ w
 none_held w block h = ap (λ t. appended w t) h ∙ appended-nil w
 
 -- everything was handed on
-pub handed_all : (w0 w1 : Option (List ℕ)) (old new : Block) → HandsOn w0 w1 old new → held_of new ≡ [] → appended w0 (held_of old) ≡ w1
+handed_all : (w0 w1 : Option (List ℕ)) (old new : Block) → HandsOn w0 w1 old new → held_of new ≡ [] → appended w0 (held_of old) ≡ w1
 handed_all w0 w1 old new h none = sym (hands_same w0 w1 old new h) ∙ none_held w1 new none
 
--- a piece was read, and all its lines handed on
-pub fed_handed : (bytes : List ℕ) (quads : List Parts) (piece : List ℕ) (reader : FlatReader) (w0 w1 w2 : Option (List ℕ)) (b0 b1 b2 : Block) → held_of b0 ≡ [] → FedLines bytes quads piece reader (appended w0 (held_of b0)) (appended w1 (held_of b1))
-    → HandsOn w1 w2 b1 b2 → held_of b2 ≡ [] → FedLines bytes quads piece reader w0 w2
-fed_handed bytes quads piece reader w0 w1 w2 b0 b1 b2 none fed h all =
-    subst (λ w. FedLines bytes quads piece reader w w2) (none_held w0 b0 none) (subst (λ w. FedLines bytes quads piece reader (appended w0 (held_of b0)) w) (handed_all w1 w2 b1 b2 h all) fed)
+module _ (quads : List Parts) (w0 w1 w2 : Option (List ℕ)) (b0 b1 b2 : Block) (none : held_of b0 ≡ []) (hands : HandsOn w1 w2 b1 b2) where
+  told_held : Told w0 false quads → Told (appended w0 (held_of b0)) false quads
+  told_held told = subst (λ w. Told w false quads) (sym (none_held w0 b0 none)) told
 
--- a piece stopped the reading, and all its lines were handed on
-pub stopped_handed : (bytes : List ℕ) (quads : List Parts) (piece : List ℕ) (stop : Stop) (w0 w1 w2 : Option (List ℕ)) (b0 b1 b2 : Block) → held_of b0 ≡ [] → StoppedLines bytes quads piece stop (appended w0 (held_of b0)) (appended w1 (held_of b1))
-    → HandsOn w1 w2 b1 b2 → held_of b2 ≡ [] → StoppedLines bytes quads piece stop w0 w2
-stopped_handed bytes quads piece stop w0 w1 w2 b0 b1 b2 none s h all =
-    subst (λ w. StoppedLines bytes quads piece stop w w2) (none_held w0 b0 none) (subst (λ w. StoppedLines bytes quads piece stop (appended w0 (held_of b0)) w) (handed_all w1 w2 b1 b2 h all) s)
+  -- all lines were handed on
+  pub adds_handed : (Holds : List Parts → Type 0) → held_of b2 ≡ [] → AddsLines Holds quads (appended w0 (held_of b0)) (appended w1 (held_of b1)) → AddsLines Holds quads w0 w2
+  adds_handed Holds all h =
+      subst (λ w. AddsLines Holds quads w w2) (none_held w0 b0 none) (subst (λ w. AddsLines Holds quads (appended w0 (held_of b0)) w) (handed_all w1 w2 b1 b2 hands all) h)
 
--- a piece was read, and not all its lines were handed on
-pub fed_cut : (bytes : List ℕ) (quads : List Parts) (piece : List ℕ) (reader : FlatReader) (w0 w1 w2 : Option (List ℕ)) (b0 b1 b2 : Block) → held_of b0 ≡ [] → FedLines bytes quads piece reader (appended w0 (held_of b0)) (appended w1 (held_of b1))
-    → HandsOn w1 w2 b1 b2 → StoppedLines bytes quads piece OutFault w0 w2
-fed_cut bytes quads piece reader w0 w1 w2 b0 b1 b2 none fed h =
-    record {
-      cause = tt;
-      puts = λ told.
-          let all : PutsLines (bytes ++ piece) false (appended w1 (held_of b1)) = record {
-            quads = quads ++ fed.more;
-            sure = read_sure (bytes ++ piece) (quads ++ fed.more) reader fed.read;
-            lines = fed.lines (subst (λ w. Told w false quads) (sym (none_held w0 b0 none)) told);
-          } in
-          puts_front (bytes ++ piece) false w2 (held_of b2) (subst (λ w. PutsLines (bytes ++ piece) false w) (sym (hands_same w1 w2 b1 b2 h)) all);
+  -- not all were
+  pub adds_cut : (Holds Sure : List Parts → Type 0) → IsClosed Sure → ((q : List Parts) → Holds q → Sure q) → AddsLines Holds quads (appended w0 (held_of b0)) (appended w1 (held_of b1)) → Told w0 false quads → PutsLines Sure true w2
+  adds_cut Holds Sure closed sure h told =
+      let all : PutsLines Sure false (appended w1 (held_of b1)) = record { quads = quads ++ h.more; holds = sure (quads ++ h.more) h.holds; lines = h.lines (told_held told) } in
+      puts_front Sure false w2 (held_of b2) closed (subst (λ w. PutsLines Sure false w) (sym (hands_same w1 w2 b1 b2 hands)) all)
+
+  -- the lines before a stop were handed on, or the out fails
+  pub puts_answered : (Sure : List Parts → Type 0) (stop answer : Stop) → IsClosed Sure → (answer ≡ OutFault) ⊎ ((answer ≡ stop) × (held_of b2 ≡ []))
+      → (Told (appended w0 (held_of b0)) false quads → PutsLines Sure (is_out_fault stop) (appended w1 (held_of b1))) → Told w0 false quads → PutsLines Sure (is_out_fault answer) w2
+  puts_answered Sure stop answer closed k puts told =
+      let all = puts (told_held told) in
+      elim k [
+        | inl e ↦ subst (λ a. PutsLines Sure (is_out_fault a) w2) (sym e) (puts_front Sure (is_out_fault stop) w2 (held_of b2) closed (subst (λ w. PutsLines Sure (is_out_fault stop) w) (sym (hands_same w1 w2 b1 b2 hands)) all))
+        | inr e ↦ subst (λ a. PutsLines Sure (is_out_fault a) w2) (sym e.0) (subst (λ w. PutsLines Sure (is_out_fault stop) w) (handed_all w1 w2 b1 b2 hands e.1) all)
+      ]
+
+  module _ (s : Settings) (bytes : List ℕ) where
+    -- a piece was read, and all its lines handed on
+    pub fed_handed : (piece : List ℕ) (e : EngineState) → held_of b2 ≡ [] → FedLines s bytes quads piece e (appended w0 (held_of b0)) (appended w1 (held_of b1)) → FedLines s bytes quads piece e w0 w2
+    fed_handed piece e all h = adds_handed (λ q. Stands s (bytes ++ piece) q e) all h
+
+    -- a piece was read, and not all its lines were handed on
+    pub fed_cut : (piece : List ℕ) (e : EngineState) → FedLines s bytes quads piece e (appended w0 (held_of b0)) (appended w1 (held_of b1)) → StoppedLines s bytes quads piece OutFault e w0 w2
+    fed_cut piece e h =
+        let count : e.bytes ≡ length (bytes ++ piece) = h.holds.count in
+        record {
+          cause = tt;
+          count = omega arith;
+          puts = adds_cut (λ q. Stands s (bytes ++ piece) q e) (AreSure s (bytes ++ piece)) (sure_front s (bytes ++ piece))
+              (λ q stands. sure-now s (bytes ++ piece) q e stands) h;
+        }
+
+    cause_answered : (b : List ℕ) (stop answer : Stop) → (answer ≡ OutFault) ⊎ ((answer ≡ stop) × (held_of b2 ≡ [])) → StopCause s b stop → StopCause s b answer
+    cause_answered b stop answer (inl e) c = subst (StopCause s b) (sym e) tt
+    cause_answered b stop answer (inr e) c = subst (StopCause s b) (sym e.0) c
+
+    -- a piece stopped the reading
+    pub stopped_answered : (piece : List ℕ) (stop answer : Stop) (e : EngineState) → (answer ≡ OutFault) ⊎ ((answer ≡ stop) × (held_of b2 ≡ []))
+        → StoppedLines s bytes quads piece stop e (appended w0 (held_of b0)) (appended w1 (held_of b1)) → StoppedLines s bytes quads piece answer e w0 w2
+    stopped_answered piece stop answer e k h = record {
+      cause = cause_answered (bytes ++ piece) stop answer k h.cause;
+      count = h.count;
+      puts = puts_answered (AreSure s (bytes ++ piece)) stop answer (sure_front s (bytes ++ piece)) k h.puts;
     }
 
--- a piece stopped the reading, and not all its lines were handed on
-pub stopped_cut : (bytes : List ℕ) (quads : List Parts) (piece : List ℕ) (stop : Stop) (w0 w1 w2 : Option (List ℕ)) (b0 b1 b2 : Block) → held_of b0 ≡ [] → StoppedLines bytes quads piece stop (appended w0 (held_of b0)) (appended w1 (held_of b1))
-    → HandsOn w1 w2 b1 b2 → StoppedLines bytes quads piece OutFault w0 w2
-stopped_cut bytes quads piece stop w0 w1 w2 b0 b1 b2 none s h =
-    record {
-      cause = tt;
-      puts = λ told.
-          let all = s.puts (subst (λ w. Told w false quads) (sym (none_held w0 b0 none)) told) in
-          puts_front (bytes ++ piece) (is_out_fault stop) w2 (held_of b2) (subst (λ w. PutsLines (bytes ++ piece) (is_out_fault stop) w) (sym (hands_same w1 w2 b1 b2 h)) all);
-    }
+    -- the end was read, and all lines handed on, or not all
+    pub finished_handed : held_of b2 ≡ [] → FinishedLines s bytes quads (appended w0 (held_of b0)) (appended w1 (held_of b1)) → FinishedLines s bytes quads w0 w2
+    finished_handed all h = adds_handed (IsRead s bytes) all h
 
--- the same, told by the answer
-pub stopped_answered : (bytes : List ℕ) (quads : List Parts) (piece : List ℕ) (stop answer : Stop) (w0 w1 w2 : Option (List ℕ)) (b0 b1 b2 : Block) → held_of b0 ≡ [] → StoppedLines bytes quads piece stop (appended w0 (held_of b0)) (appended w1 (held_of b1))
-    → HandsOn w1 w2 b1 b2 → (answer ≡ OutFault) ⊎ ((answer ≡ stop) × (held_of b2 ≡ [])) → StoppedLines bytes quads piece answer w0 w2
-stopped_answered bytes quads piece stop answer w0 w1 w2 b0 b1 b2 none s h k = elim k [
-  | inl e ↦ subst (λ a. StoppedLines bytes quads piece a w0 w2) (sym e) (stopped_cut bytes quads piece stop w0 w1 w2 b0 b1 b2 none s h)
-  | inr e ↦ subst (λ a. StoppedLines bytes quads piece a w0 w2) (sym e.0) (stopped_handed bytes quads piece stop w0 w1 w2 b0 b1 b2 none s h e.1)
-]
+    pub finished_cut : FinishedLines s bytes quads (appended w0 (held_of b0)) (appended w1 (held_of b1)) → EndedLines s bytes quads OutFault w0 w2
+    finished_cut h = record { cause = tt; puts = adds_cut (IsRead s bytes) (AreSure s bytes) (sure_front s bytes) (λ q d. d.sure) h }
+
+    end_answered : (stop answer : Stop) → (answer ≡ OutFault) ⊎ ((answer ≡ stop) × (held_of b2 ≡ [])) → EndCause s bytes stop → EndCause s bytes answer
+    end_answered stop answer (inl e) c = subst (EndCause s bytes) (sym e) tt
+    end_answered stop answer (inr e) c = subst (EndCause s bytes) (sym e.0) c
+
+    -- the end stopped the reading
+    pub ended_answered : (stop answer : Stop) → (answer ≡ OutFault) ⊎ ((answer ≡ stop) × (held_of b2 ≡ []))
+        → EndedLines s bytes quads stop (appended w0 (held_of b0)) (appended w1 (held_of b1)) → EndedLines s bytes quads answer w0 w2
+    ended_answered stop answer k h = record { cause = end_answered stop answer k h.cause; puts = puts_answered (AreSure s bytes) stop answer (sure_front s bytes) k h.puts }
 
 -- a count that has risen without calls that were refused
 pub rose_alone : (m n r s : ℕ) → r ≡ 0 → s ≡ r → Rose (m + r) (n + s) → Rose m n
 rose_alone m n r s none same h = let rose : min ((m + r) + 1) (2 ^ 64 - 1) ≤ n + s = h in omega arith
 
 -- what holds where a piece stopped the reading
-pub at_stop : (result : Result (Unit {0}) Stop) (stop : Stop) (reader : FlatReader) (piece : List ℕ) (w0 w1 : Option (List ℕ)) → StopsWithLines result reader piece w0 w1 → result ≡ Err stop
-    → (bytes : List ℕ) (quads : List Parts) → HasRead bytes quads reader → StoppedLines bytes quads piece stop w0 w1
-at_stop result stop reader piece w0 w1 h is =
-    subst (λ r. IfErr r (λ s. (bytes : List ℕ) (quads : List Parts) → HasRead bytes quads reader → StoppedLines bytes quads piece s w0 w1)) is h.stopped
+pub at_stop : (result : Result (Unit {0}) Stop) (stop : Stop) (old new : EngineState) (piece : List ℕ) (w0 w1 : Option (List ℕ)) → StopsWithLines result old new piece w0 w1 → result ≡ Err stop
+    → (s : Settings) (bytes : List ℕ) (quads : List Parts) → Stands s bytes quads old → StoppedLines s bytes quads piece stop new w0 w1
+at_stop result stop old new piece w0 w1 h is =
+    subst (λ r. IfErr r (λ x. (s : Settings) (bytes : List ℕ) (quads : List Parts) → Stands s bytes quads old → StoppedLines s bytes quads piece x new w0 w1)) is h.stopped
+
+-- and where the end did
+pub at_end_stop : (result : Result (Unit {0}) Stop) (stop : Stop) (old : EngineState) (w0 w1 : Option (List ℕ)) → EndsWithLines result old w0 w1 → result ≡ Err stop
+    → (s : Settings) (bytes : List ℕ) (quads : List Parts) → Stands s bytes quads old → EndedLines s bytes quads stop w0 w1
+at_end_stop result stop old w0 w1 h is =
+    subst (λ r. IfErr r (λ x. (s : Settings) (bytes : List ℕ) (quads : List Parts) → Stands s bytes quads old → EndedLines s bytes quads x w0 w1)) is h.stopped

@@ -1,10 +1,7 @@
 pub mod Blocks
 pub mod Headline
 pub mod Pieces
-pub mod Reading
 pub mod Reports
 pub mod Runs
-pub mod Said
-pub mod Spots
-pub mod Stops
 pub mod Words
+pub mod Promptness

@@ -2,21 +2,19 @@
 use Rattle.std.specs.Prelude.{◌≡◌, ◌≢◌, ◌↔◌, ◌⊎◌, ℕ, ◌==◌, List, [], ◌++◌, Option, Some, None, IsSome, Result, Ok, Err, codes, decimal, if◌then◌else◌}
 use Rattle.jl_model.specs.Codes.{code_name}
 use Rattle.jl_model.specs.declared.codes.Code.{Code}
-use Rattle.jl_model.specs.declared.codes.Code.TheVariants.{TooLong}
 use Rattle.jl_top.specs.declared.reports.Report.{Report}
 use Rattle.jl_top.specs.declared.stops.ReadStop.{ReadStop}
-use Rattle.jl_top.specs.declared.stops.ReadStop.TheVariants.{Refused, TakeFault, OutFault, NoMemory}
+use Rattle.jl_top.specs.declared.stops.ReadStop.TheVariants.{Refused, TooLong, TakeFault, OutFault, NoMemory}
 
 abbrev pub plain_report : ℕ → ℕ → Report
 plain_report status quads = record { status = status; code = None; at = 0; quads = quads; peak = 0; weight = 0; limit = 0 }
 
--- a document that is too long has a status of its own
 abbrev pub fault_report : Code → ℕ → ℕ → Report
-fault_report TooLong at quads = plain_report 8 quads
 fault_report code at quads = record { status = 1; code = Some code; at = at; quads = quads; peak = 0; weight = 0; limit = 0 }
 
 abbrev pub stop_report : ReadStop → ℕ → Report
 stop_report (Refused fault) quads = fault_report fault.code fault.at quads
+stop_report TooLong quads = plain_report 8 quads
 stop_report TakeFault quads = plain_report 3 quads
 stop_report OutFault quads = plain_report 4 quads
 stop_report NoMemory quads = plain_report 5 quads

@@ -3,12 +3,12 @@
 
 mod block_outs;
 mod blocks;
-mod flat_readers;
 mod pieces;
 mod reports;
 mod runs;
-mod spots;
 mod stops;
+#[cfg(test)]
+mod strict_tests;
 #[cfg(test)]
 mod tests;
 mod top;
@@ -16,3 +16,4 @@ mod words;
 
 pub use reports::Report;
 pub use top::run;
+pub use words::law_words;

@@ -42,17 +42,14 @@ pub fn plain(status: u8, quads: u64) -> Report
 fn faulty(fault: Fault, quads: u64) -> Report
     ensures { result ≡ fault_report fault.code fault.at quads }
 {
-    match fault.code {
-        Code::TooLong => plain(8, quads),
-        code => Report {
-            status: 1,
-            code: Some(code),
-            at: fault.at,
-            quads,
-            peak: 0,
-            weight: 0,
-            limit: 0,
-        },
+    Report {
+        status: 1,
+        code: Some(fault.code),
+        at: fault.at,
+        quads,
+        peak: 0,
+        weight: 0,
+        limit: 0,
     }
 }
 
@@ -63,6 +60,7 @@ pub fn make_report(outcome: Result<(), ReadStop>, quads: u64) -> Report
     match outcome {
         Ok(()) => plain(0, quads),
         Err(ReadStop::Refused(fault)) => faulty(fault, quads),
+        Err(ReadStop::TooLong) => plain(8, quads),
         Err(ReadStop::TakeFault) => plain(3, quads),
         Err(ReadStop::OutFault) => plain(4, quads),
         Err(ReadStop::NoMemory) => plain(5, quads),

@@ -1,46 +1,47 @@
 //! The top call.
-ghost use Rattle.std.specs.Prelude.{◌≡◌, ◌↔◌, ◌≤◌, ◌^◌, ℕ, List, length, true, false};
+ghost use Rattle.std.specs.Prelude.{◌≡◌, ◌↔◌, ◌≤◌, ◌^◌, ℕ, List, length, true, false, None, IfSome};
 ghost use Rattle.jl_io.specs.Outside.{SaysMore};
 ghost use Rattle.jl_top.specs.Blocks.{CountsLines};
 ghost use Rattle.jl_top.specs.Headline.{IsUntouched, AnswersRead, AnswersFault, AnswersTooLong, AnswersTaking, AnswersWriting, PutsSureLines, IsComplete, RunAnswers};
+ghost use Rattle.jl_top.specs.Promptness.{Grants};
 ghost use Rattle.jl_top.specs.Reports.{IsReport, report_line};
 ghost use Rattle.jl_top.specs.Runs.{IsFresh};
-ghost use Rattle.jl_top.specs.Words.{is_command};
+ghost use Rattle.jl_top.specs.Words.{settings_of};
 
 use super::blocks::Block;
 use super::reports::{Report, make_report, plain, say_report};
 use super::runs::read_all;
-use super::words::are_command;
+use super::words::read_words;
 use jl_io::{Port, Shelf};
 use jl_model::Text;
 use std::alloc::Global;
 
 /// Does all that the program does: reads the document that the port gives, puts the lines of its
-/// quads, says a line where the status isn't 0, and reports.
+/// quads while it reads, says a line where the status isn't 0, and reports.
 ///
 /// `words` are those behind the program's name. Nothing is fetched from the shelf.
 pub fn run<P: Port, F: Shelf>(alloc: Global, words: &[Text], port: &mut P, _shelf: &mut F) -> Report
     requires open { P.ended port.old ≡ false }
     requires fresh { IsFresh (P.taken port.old) (P.written port.old) }
-    requires may { (taken put : List ℕ) → length taken ≤ 2 ^ 40 → P.may_take port.old taken put }
+    requires may { IfSome (settings_of words.now) (λ s. Grants s (P.may_take port.old)) }
 
     // The words.
-    ensures words { (result.status ≡ 2) ↔ (is_command words.now ≡ false) }
-    ensures untouched { is_command words.now ≡ false → IsUntouched (P.taken port.old) (P.taken port.new) (P.written port.old) (P.written port.new) (P.ended port.old) (P.ended port.new) }
+    ensures words { (result.status ≡ 2) ↔ (settings_of words.now ≡ None) }
+    ensures untouched { settings_of words.now ≡ None → IsUntouched (P.taken port.old) (P.taken port.new) (P.written port.old) (P.written port.new) (P.ended port.old) (P.ended port.new) }
 
     // What status 0 says.
-    ensures read { AnswersRead result (P.taken port.new) (P.left port.old) (P.left port.new) (P.written port.new) }
+    ensures read { IfSome (settings_of words.now) (λ s. AnswersRead s result (P.taken port.new) (P.left port.old) (P.left port.new) (P.written port.new)) }
     ensures ended { result.status ≡ 0 → P.ended port.new ≡ true }
 
     // When the other answers come.
-    ensures fault { AnswersFault result (P.taken port.new) (P.left port.old) (P.left port.new) (P.ended port.new) }
+    ensures fault { IfSome (settings_of words.now) (λ s. AnswersFault s result (P.taken port.new) (P.left port.old) (P.left port.new) (P.ended port.new)) }
     ensures taking { AnswersTaking result (P.take_faults port.old) (P.take_faults port.new) }
     ensures writing { AnswersWriting result (P.put_faults port.old) (P.put_faults port.new) }
     ensures too_long { AnswersTooLong result (P.taken port.new) (P.left port.old) (P.left port.new) }
-    ensures complete { is_command words.now ≡ true → IsComplete result (P.left port.old) (P.take_faults port.old) (P.take_faults port.new) (P.put_faults port.old) (P.put_faults port.new) }
+    ensures complete { IfSome (settings_of words.now) (λ s. IsComplete s result (P.left port.old) (P.take_faults port.old) (P.take_faults port.new) (P.put_faults port.old) (P.put_faults port.new)) }
 
     // At every end.
-    ensures lines { PutsSureLines result (P.taken port.new) (P.left port.old) (P.left port.new) (P.written port.new) }
+    ensures lines { IfSome (settings_of words.now) (λ s. PutsSureLines s result (P.taken port.new) (P.left port.old) (P.left port.new) (P.written port.new)) }
     ensures quads { CountsLines (P.written port.new) result.quads }
     ensures report { IsReport result }
     ensures said { SaysMore (P.said port.old) (report_line result) (P.said port.new) }
@@ -54,18 +55,18 @@ pub fn run<P: Port, F: Shelf>(alloc: Global, words: &[Text], port: &mut P, _shel
 fn answer<P: Port>(alloc: Global, words: &[Text], port: &mut P) -> Report
     requires open { P.ended port.old ≡ false }
     requires fresh { IsFresh (P.taken port.old) (P.written port.old) }
-    requires may { (taken put : List ℕ) → length taken ≤ 2 ^ 40 → P.may_take port.old taken put }
-    ensures answers { RunAnswers words.now result (P.taken port.old) (P.taken port.new) (P.left port.old) (P.left port.new) (P.written port.old) (P.written port.new)
+    requires may { IfSome (settings_of words.now) (λ s. Grants s (P.may_take port.old)) }
+    ensures answers { RunAnswers (settings_of words.now) result (P.taken port.old) (P.taken port.new) (P.left port.old) (P.left port.new) (P.written port.old) (P.written port.new)
         (P.ended port.old) (P.ended port.new) (P.take_faults port.old) (P.take_faults port.new) (P.put_faults port.old) (P.put_faults port.new) }
     ensures said { P.said port.new ≡ P.said port.old }
 {
-    if !are_command(words) {
+    let Some(options) = read_words(words) else {
         return plain(2, 0);
-    }
+    };
     let mut block = match Block::new(alloc) {
         Ok(block) => block,
         Err(_) => return plain(5, 0),
     };
-    let outcome = read_all(alloc, port, &mut block);
+    let outcome = read_all(alloc, options.base, port, &mut block);
     make_report(outcome, block.lines)
 }

@@ -6,25 +6,25 @@ use Rattle.jl_top.proofs.pieces.read_piece.Goals as goal
 
 pub returns-in-Ok-clause-fed : goal.returns-in-Ok-clause-fed
 returns-in-Ok-clause-fed g c =
-    on_ok c.hand_on_rest.result (λ all bytes quads h.
-    fed_handed bytes quads c.args.piece.now c.read_into.new.reader (g.B.ByteOut.written c.args.out.now) (g.B.ByteOut.written c.read_into.new.out) (g.B.ByteOut.written c.hand_on_rest.new.out)
-    c.args.block.now c.read_into.new.block c.hand_on_rest.new.block c.requires.none_held (c.in-Ok.ensures.fed bytes quads h) c.hand_on_rest.ensures.hands_on all)
+    on_ok c.hand_on_rest.result (λ all s bytes quads h.
+    fed_handed quads (g.B.ByteOut.written c.args.out.now) (g.B.ByteOut.written c.read_into.new.out) (g.B.ByteOut.written c.hand_on_rest.new.out)
+    c.args.block.now c.read_into.new.block c.hand_on_rest.new.block c.requires.none_held c.hand_on_rest.ensures.hands_on s bytes c.args.piece.now c.read_into.new.engine all (c.in-Ok.ensures.fed s bytes quads h))
     c.hand_on_rest.ensures.all
 
 pub returns-in-Ok-clause-stopped : goal.returns-in-Ok-clause-stopped
 returns-in-Ok-clause-stopped g c =
     record {
-      stopped = if_err_too c.hand_on_rest.result (λ stop is bytes quads h.
-          subst (λ s. StoppedLines bytes quads c.args.piece.now s (g.B.ByteOut.written c.args.out.now) (g.B.ByteOut.written c.hand_on_rest.new.out)) (sym is)
-          (fed_cut bytes quads c.args.piece.now c.read_into.new.reader (g.B.ByteOut.written c.args.out.now) (g.B.ByteOut.written c.read_into.new.out) (g.B.ByteOut.written c.hand_on_rest.new.out)
-          c.args.block.now c.read_into.new.block c.hand_on_rest.new.block c.requires.none_held (c.in-Ok.ensures.fed bytes quads h) c.hand_on_rest.ensures.hands_on))
+      stopped = if_err_too c.hand_on_rest.result (λ stop is s bytes quads h.
+          subst (λ x. StoppedLines s bytes quads c.args.piece.now x c.read_into.new.engine (g.B.ByteOut.written c.args.out.now) (g.B.ByteOut.written c.hand_on_rest.new.out)) (sym is)
+          (fed_cut quads (g.B.ByteOut.written c.args.out.now) (g.B.ByteOut.written c.read_into.new.out) (g.B.ByteOut.written c.hand_on_rest.new.out)
+          c.args.block.now c.read_into.new.block c.hand_on_rest.new.block c.requires.none_held c.hand_on_rest.ensures.hands_on s bytes c.args.piece.now c.read_into.new.engine (c.in-Ok.ensures.fed s bytes quads h)))
           c.hand_on_rest.ensures.stop;
     }
 
 pub returns-in-Err-clause-stopped : goal.returns-in-Err-clause-stopped
 returns-in-Err-clause-stopped g c = record {
-  stopped = λ bytes quads h.
-      stopped_answered bytes quads c.args.piece.now c.in-Err.stop c.hand_on_stopped.result (g.B.ByteOut.written c.args.out.now) (g.B.ByteOut.written c.read_into.new.out) (g.B.ByteOut.written c.hand_on_stopped.new.out)
-      c.args.block.now c.read_into.new.block c.hand_on_stopped.new.block c.requires.none_held
-      (at_stop c.read_into.result c.in-Err.stop c.args.reader.now c.args.piece.now _ _ c.read_into.ensures.stopped c.in-Err.is bytes quads h) c.hand_on_stopped.ensures.hands_on c.hand_on_stopped.ensures.answer;
+  stopped = λ s bytes quads h.
+      stopped_answered quads (g.B.ByteOut.written c.args.out.now) (g.B.ByteOut.written c.read_into.new.out) (g.B.ByteOut.written c.hand_on_stopped.new.out)
+      c.args.block.now c.read_into.new.block c.hand_on_stopped.new.block c.requires.none_held c.hand_on_stopped.ensures.hands_on s bytes c.args.piece.now c.in-Err.stop c.hand_on_stopped.result c.read_into.new.engine c.hand_on_stopped.ensures.answer
+      (at_stop c.read_into.result c.in-Err.stop c.args.engine.now c.read_into.new.engine c.args.piece.now _ _ c.read_into.ensures.stopped c.in-Err.is s bytes quads h);
 }

@@ -9,25 +9,25 @@ returns-then-lines-clause-stopped g c =
     let f0 = c.args.lines.now.failed in
     let f1 = c.feed-read.new.out.failed in
     record {
-      stopped = λ bytes quads h. either c.feed-read.result
-          (λ f. failed_fed bytes quads c.args.piece.now c.feed-read.new.self w0 w1 f0 f1 c.requires.unfailed (f bytes quads h))
-          (λ stop f. failed_stopped bytes quads c.args.piece.now stop w0 w1 f0 f1 c.requires.unfailed (f bytes quads h))
+      stopped = λ s bytes quads h. either c.feed-read.result
+          (λ f. failed_fed s bytes quads w0 w1 f0 f1 c.requires.unfailed c.args.piece.now c.feed-read.new.self (f s bytes quads h))
+          (λ stop f. failed_stopped s bytes quads w0 w1 f0 f1 c.requires.unfailed c.args.piece.now stop c.feed-read.new.self (f s bytes quads h))
           c.feed-read.ensures.fed c.feed-read.ensures.stopped;
     }
 
 pub returns-clause-fed : goal.returns-clause-fed
 returns-clause-fed g c =
-    on_ok c.feed-read.result (λ f bytes quads h.
-    fed_lines bytes quads c.args.piece.now c.feed-read.new.self (g.B.ByteOut.written c.args.lines.now.out.now) (g.B.ByteOut.written c.feed-read.new.out.out.now) c.args.lines.now.failed c.feed-read.new.out.failed
-    c.requires.unfailed c.if-lines.false (f bytes quads h))
+    on_ok c.feed-read.result (λ f s bytes quads h.
+    fed_lines s bytes quads (g.B.ByteOut.written c.args.lines.now.out.now) (g.B.ByteOut.written c.feed-read.new.out.out.now) c.args.lines.now.failed c.feed-read.new.out.failed
+    c.requires.unfailed c.args.piece.now c.feed-read.new.self c.if-lines.false (f s bytes quads h))
     c.feed-read.ensures.fed
 
 pub returns-clause-stopped : goal.returns-clause-stopped
 returns-clause-stopped g c =
     record {
-      stopped = if_err_too c.feed-read.result (λ stop f bytes quads h.
-          stopped_lines bytes quads c.args.piece.now stop (g.B.ByteOut.written c.args.lines.now.out.now) (g.B.ByteOut.written c.feed-read.new.out.out.now) c.args.lines.now.failed c.feed-read.new.out.failed
-          c.requires.unfailed c.if-lines.false (f bytes quads h))
+      stopped = if_err_too c.feed-read.result (λ stop f s bytes quads h.
+          stopped_lines s bytes quads (g.B.ByteOut.written c.args.lines.now.out.now) (g.B.ByteOut.written c.feed-read.new.out.out.now) c.args.lines.now.failed c.feed-read.new.out.failed
+          c.requires.unfailed c.args.piece.now stop c.feed-read.new.self (f s bytes quads h) c.if-lines.false)
           c.feed-read.ensures.stopped;
     }
 
@@ -36,5 +36,5 @@ returns-clause-cause g c =
     record {
       later = c.feed-read.ensures.beside.2.later;
       failed = λ e. rose_alone (g.B.ByteOut.put_faults c.args.lines.now.out.now) (g.B.ByteOut.put_faults c.feed-read.new.out.out.now) c.args.lines.now.refused c.feed-read.new.out.refused
-          c.requires.unrefused (c.feed-read.ensures.beside.2.unrefused c.if-lines.false) (c.feed-read.ensures.cause.failed e);
+          c.requires.unrefused (c.feed-read.ensures.beside.2.unrefused c.if-lines.false) ((c.feed-read.ensures.cause c.requires.begun.3.goes_on).failed e);
     }
