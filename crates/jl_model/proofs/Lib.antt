@@ -7,5 +7,6 @@ mod BadLineRows
 mod LineStarts
 pub mod Subtags
 pub mod LastByte
+pub mod Datatypes
 pub mod JsonLists
 pub mod SameStrings

@@ -1,7 +1,8 @@
 //! Quads.
 ghost use Rattle.std.specs.Prelude.{◌≡◌, ◌↔◌, IsTrue, IfSome, IsSome, IfOk};
 ghost use Rattle.std.specs.Option.{option_copied};
-ghost use Rattle.jl_model.specs.Parts.{IsNode, IsLit, IsObject, IsGraph, IsLanguage};
+ghost use Rattle.jl_model.specs.Iris.{IsIri};
+ghost use Rattle.jl_model.specs.Parts.{IsNode, IsLit, IsObject, IsGraph, IsLanguage, xsd_string};
 
 use super::terms::{Lit, Term};
 use super::text_tests::{is_iri, is_kept_label, is_language_tag};
@@ -115,8 +116,21 @@ fn is_lit(lit: &Lit) -> bool
     ensures { IsTrue result ↔ IsLit lit.now }
 {
     std::str::from_utf8(lit.text.bytes()).is_ok()
-        && is_iri(lit.datatype.bytes())
+        && is_datatype(lit.datatype.bytes())
         && is_language(lit.datatype.bytes(), &lit.language)
+}
+
+/// Whether the text is an IRI. Most datatypes are xsd:string, which needs no look at each byte.
+fn is_datatype(datatype: &[u8]) -> bool
+    ensures { IsTrue result ↔ IsIri datatype.now }
+{
+    is_xsd_string(datatype) || is_iri(datatype)
+}
+
+fn is_xsd_string(datatype: &[u8]) -> bool
+    ensures { IsTrue result ↔ datatype.now ≡ xsd_string }
+{
+    datatype == b"http://www.w3.org/2001/XMLSchema#string".as_slice()
 }
 
 fn is_language(datatype: &[u8], language: &Option<Text>) -> bool

@@ -40,10 +40,11 @@ fn are_scheme_bytes(text: &[u8]) -> bool
     text.iter().all(|byte| is_scheme_byte(*byte))
 }
 
+/// Every byte is looked at, also behind one that IRIs leave out, so that many are at once.
 fn are_iri_bytes(text: &[u8]) -> bool
     ensures { result ≡ list_all iris.is_iri_byte text.now }
 {
-    text.iter().all(|byte| is_iri_byte(*byte))
+    text.iter().fold(true, |all, byte| all & is_iri_byte(*byte))
 }
 
 fn first_colon(text: &[u8]) -> Option<usize>
