@@ -2,7 +2,7 @@
 use Rattle.std.proofs.Common.{◌≡◌, ℕ, suc, ◌+◌, ◌<◌, ◌≤◌, ◌==◌, ◌||◌, Bool, true, false, not, cond, List, [], ◌∷◌, ◌++◌, take, drop, length, flat_map, Option, Some, None, refl, sym, ap, ◌∙◌, subst, arith, inl, inr, nat_lt, append-nil, get_or}
 use Rattle.std.proofs.Math.Seq.{take-add}
 use Rattle.std.proofs.lemmas.Bool.{cases_Bool, cond-true, ltb-false}
-use Rattle.std.proofs.lemmas.List.{take-append-drop}
+use Rattle.std.proofs.lemmas.List.{take-append-drop, take_all}
 use Rattle.std.proofs.lemmas.List.Concat.{flat_map-append}
 use Rattle.std.specs.List.{position}
 use Rattle.jl_io.specs.Outside.{appended}
@@ -47,6 +47,12 @@ run_escaped (c ∷ text) = elim (cases_Bool (needs_escape c)) [
       subst (λ k. flat_map escaped (take k (c ∷ text)) ≡ take k (c ∷ text)) (sym one)
       (ap (λ t. t ++ flat_map escaped (take (plain_len_of text) text)) (same_byte c e) ∙ ap (λ t. c ∷ t) (run_escaped text))
 ]
+
+-- a text in which no byte needs an escape is written as it is
+pub unescaped : (text : List ℕ) → position needs_escape text ≡ None → flat_map escaped text ≡ text
+unescaped text h =
+    let all : take (plain_len_of text) text ≡ text = take_all (plain_len_of text) text (omega (arith, plain_whole text h)) in
+    subst (λ t. flat_map escaped t ≡ t) all (run_escaped text)
 
 -- a text is a front of it and what is left
 escaped-split : (text : List ℕ) (n : ℕ) → flat_map escaped text ≡ flat_map escaped (take n text) ++ flat_map escaped (drop n text)

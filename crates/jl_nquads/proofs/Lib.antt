@@ -3,3 +3,4 @@ pub mod Fronts
 pub mod Joins
 pub mod Outcomes
 pub mod Telling
+pub mod Triples

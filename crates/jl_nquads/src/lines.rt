@@ -1,17 +1,17 @@
 //! The line of a quad, put to an out in few calls. No call here takes memory.
-ghost use Rattle.std.specs.Prelude.{◌≡◌, ◌<◌, ◌≤◌, length, take, OnOk, OnErr, IfOk, IsErr, None, flat_map, position};
+ghost use Rattle.std.specs.Prelude.{◌≡◌, ◌<◌, ◌≤◌, length, take, OnOk, OnErr, IfOk, IsErr, None, true, [], flat_map, position};
 ghost use Rattle.std.specs.Option.{option_copied};
 ghost use Rattle.std.specs.Str.{bytes_eq};
 ghost use Rattle.jl_model.specs.Causes.{HasCause};
-ghost use Rattle.jl_model.specs.Lines.{line, spaced, iri_text, term_text, lit_text, graph_text, escaped};
+ghost use Rattle.jl_model.specs.Lines.{line, spaced, iri_text, term_text, lit_text, graph_text, suffix_text, escaped};
 ghost use Rattle.jl_model.specs.Parts.{xsd_string, parts_of};
 ghost use Rattle.jl_io.specs.Outside.{appended};
-ghost use Rattle.jl_nquads.specs.Endings.{ending};
+ghost use Rattle.jl_nquads.specs.Endings.{ending, IsPlain};
 ghost use Rattle.jl_nquads.specs.Escapes.{needs_escape, plain_len_of};
 ghost use Rattle.jl_nquads.specs.Puts.{PutsFront, joined};
 
 use jl_io::{ByteOut, Failed};
-use jl_model::{Quad, Term, Text};
+use jl_model::{Lit, Quad, Term, Text};
 
 /// Puts all the bytes.
 fn put_all<B: ByteOut>(out: &mut B, bytes: &[u8]) -> Result<(), Failed>
@@ -51,7 +51,96 @@ pub fn write_line<B: ByteOut>(quad: &Quad, out: &mut B) -> Result<(), Failed>
     put_line(quad.subject(), predicate, quad.object(), quad.graph(), out)
 }
 
+/// Puts the line of these parts. The lines that stand in most datasets are put in few calls.
 fn put_line<B: ByteOut>(
+    subject: &Term,
+    predicate: &[u8],
+    object: &Term,
+    graph: Option<&Term>,
+    out: &mut B,
+) -> Result<(), Failed>
+    ensures put { OnOk result (B.written out.new ≡ appended (B.written out.old) (line (parts_of subject.now predicate.now object.now (option_copied graph.entry)))) }
+    ensures cut { OnErr result (PutsFront (B.written out.old) (line (parts_of subject.now predicate.now object.now (option_copied graph.entry))) (B.written out.new)) }
+    ensures cause { HasCause (B.put_faults out.old) (B.put_faults out.new) (IsErr result) }
+    ensures beside { B.beside out.old out.new }
+{
+    match (subject, object, graph) {
+        (Term::Iri(subject), Term::Iri(object), None) => {
+            put_iris(subject.bytes(), predicate, object.bytes(), out)
+        }
+        (Term::Iri(subject), Term::Literal(lit), None) if is_plain(lit) => {
+            put_plain(subject.bytes(), predicate, lit, out)
+        }
+        _ => put_terms(subject, predicate, object, graph, out),
+    }
+}
+
+/// Puts the line of three IRIs.
+#[tactic(auto, using(crate::proofs::Triples::iris_line))]
+fn put_iris<B: ByteOut>(
+    subject: &[u8],
+    predicate: &[u8],
+    object: &[u8],
+    out: &mut B,
+) -> Result<(), Failed>
+    ensures put { OnOk result (B.written out.new ≡ appended (B.written out.old) (line (parts_of (Term.Iri subject.now) predicate.now (Term.Iri object.now) None))) }
+    ensures cut { OnErr result (PutsFront (B.written out.old) (line (parts_of (Term.Iri subject.now) predicate.now (Term.Iri object.now) None)) (B.written out.new)) }
+    ensures cause { HasCause (B.put_faults out.old) (B.put_faults out.new) (IsErr result) }
+    ensures beside { B.beside out.old out.new }
+{
+    put_parts(
+        out,
+        &[b"<", subject, b"> <", predicate, b"> <", object, b"> .\n"],
+    )
+}
+
+/// Puts the line of a literal that needs neither an escape nor a datatype.
+#[tactic(auto, using(crate::proofs::Triples::plain_line))]
+fn put_plain<B: ByteOut>(
+    subject: &[u8],
+    predicate: &[u8],
+    lit: &Lit,
+    out: &mut B,
+) -> Result<(), Failed>
+    requires { IsPlain lit.now }
+    ensures put { OnOk result (B.written out.new ≡ appended (B.written out.old) (line (parts_of (Term.Iri subject.now) predicate.now (Term.Literal lit.now) None))) }
+    ensures cut { OnErr result (PutsFront (B.written out.old) (line (parts_of (Term.Iri subject.now) predicate.now (Term.Literal lit.now) None)) (B.written out.new)) }
+    ensures cause { HasCause (B.put_faults out.old) (B.put_faults out.new) (IsErr result) }
+    ensures beside { B.beside out.old out.new }
+{
+    let text = lit.text.bytes();
+    put_parts(
+        out,
+        &[b"<", subject, b"> <", predicate, b"> \"", text, b"\" .\n"],
+    )
+}
+
+/// Whether the literal is written as its text between quotes.
+#[tactic(auto, using(crate::proofs::Triples::plain_parts))]
+fn is_plain(lit: &Lit) -> bool
+    ensures { result ≡ true → IsPlain lit.now }
+{
+    has_no_suffix(lit.datatype.bytes(), &lit.language) && has_no_escape(lit.text.bytes())
+}
+
+fn has_no_suffix(datatype: &[u8], language: &Option<Text>) -> bool
+    ensures { result ≡ true → suffix_text datatype.now language.now ≡ [] }
+{
+    match language {
+        None => is_xsd_string(datatype),
+        Some(_) => false,
+    }
+}
+
+#[tactic(auto, using(crate::proofs::EscapeRuns::unescaped))]
+fn has_no_escape(text: &[u8]) -> bool
+    ensures { result ≡ true → flat_map escaped text.now ≡ text.now }
+{
+    first_escaped(text).is_none()
+}
+
+/// Puts the line of these parts, term by term.
+fn put_terms<B: ByteOut>(
     subject: &Term,
     predicate: &[u8],
     object: &Term,
