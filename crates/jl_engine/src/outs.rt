@@ -10,8 +10,25 @@ use crate::stops::Stop;
 use crate::tellings::Quads;
 use jl_model::{Quad, QuadOut};
 
-/// Puts quads in their order.
+/// Puts quads in their order. Most bytes bring none.
+#[inline(always)]
 pub fn put_all<O: QuadOut>(quads: &Quads, out: &mut O) -> Result<(), Stop>
+    ensures put { OnOk result (WerePut (O.tells out.old) (O.tells out.new) (O.selects out.old) quads.now) }
+    ensures some { OnErr result (PutSome (O.tells out.old) (O.tells out.new) (O.selects out.old) quads.now) }
+    ensures stop { IfErr result IsOutside }
+    ensures selects { (q : Parts) → O.selects out.new q ≡ O.selects out.old q }
+    ensures cause { HasCause (O.faults out.old) (O.faults out.new) (IsErrOf result Stop.OutFault) }
+    ensures beside { O.beside out.old out.new }
+{
+    if quads.is_empty() {
+        return Ok(());
+    }
+    put_some(quads, out)
+}
+
+/// The same, where there are some.
+#[inline(never)]
+fn put_some<O: QuadOut>(quads: &Quads, out: &mut O) -> Result<(), Stop>
     ensures put { OnOk result (WerePut (O.tells out.old) (O.tells out.new) (O.selects out.old) quads.now) }
     ensures some { OnErr result (PutSome (O.tells out.old) (O.tells out.new) (O.selects out.old) quads.now) }
     ensures stop { IfErr result IsOutside }

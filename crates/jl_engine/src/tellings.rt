@@ -1,5 +1,5 @@
 //! Facts, told to the stack.
-ghost use Rattle.std.specs.Prelude.{◌≡◌, [], ◌∷◌, ◌++◌, Ok, OnOk, IfErr};
+ghost use Rattle.std.specs.Prelude.{◌≡◌, ◌↔◌, [], ◌∷◌, ◌++◌, Ok, OnOk, IfErr, IsTrue};
 ghost use Rattle.jl_frames.specs.Answers.{HasCause, IsBuilt};
 ghost use Rattle.jl_frames.specs.Facts.{enters, gives, closes};
 ghost use Rattle.jl_frames.specs.Streamed.{key_facts};
@@ -9,23 +9,22 @@ use jl_frames::{Emits, Frame, FrameStop, KeyFact, Stack, ValueFact};
 use jl_model::{Code, Fault, NoMemory, Quad};
 use std::alloc::Global;
 use std::marker::Model;
-use std::slice;
 
-/// The quads that several facts bring, which contracts see as a list. One quad takes no memory.
+/// The quads that several facts bring, which contracts see as a list. Those of the first fact that
+/// brings some take no memory of their own, and aren't copied.
 #[derive(Drop)]
 pub struct Quads {
-    first: Option<Quad>,
+    first: Emits,
     others: Vec<Quad>,
 }
 
 impl Model for Quads {
     ghost use Rattle.std.specs.Prelude.{List, ◌++◌};
     ghost use Rattle.jl_model.specs.Parts.{Parts};
-    ghost use Rattle.jl_frames.specs.Formed.{listed};
 
     ghost Value = { List Parts };
 
-    ghost view = { λ quads. listed quads.first ++ quads.others.items };
+    ghost view = { λ quads. quads.first ++ quads.others.items };
 }
 
 impl Quads {
@@ -34,15 +33,37 @@ impl Quads {
         ensures { result ≡ [] }
     {
         Quads {
-            first: None,
+            first: Emits::none(),
             others: Vec::new(alloc),
         }
     }
 
+    /// Whether there are none.
+    #[inline(always)]
+    pub fn is_empty(&self) -> bool
+        ensures { IsTrue result ↔ self.now ≡ [] }
+    {
+        self.first.is_empty() && self.others.is_empty()
+    }
+
     /// Adds the quads of a fact behind the others.
+    #[inline(always)]
     fn add(&mut self, emits: Emits) -> Result<(), NoMemory>
         ensures { OnOk result (self.new ≡ self.old ++ emits) }
     {
+        if emits.is_empty() {
+            return Ok(());
+        }
+        self.add_some(emits)
+    }
+
+    fn add_some(&mut self, emits: Emits) -> Result<(), NoMemory>
+        ensures { OnOk result (self.new ≡ self.old ++ emits) }
+    {
+        if self.is_empty() {
+            self.first = emits;
+            return Ok(());
+        }
         match emits.into_quad() {
             None => Ok(()),
             Some(quad) => self.push(quad),
@@ -52,10 +73,6 @@ impl Quads {
     fn push(&mut self, quad: Quad) -> Result<(), NoMemory>
         ensures { OnOk result (self.new ≡ self.old ++ quad ∷ []) }
     {
-        if self.first.is_none() && self.others.is_empty() {
-            self.first = Some(quad);
-            return Ok(());
-        }
         match self.others.push(quad) {
             Ok(()) => Ok(()),
             Err(_) => Err(NoMemory),
@@ -66,11 +83,7 @@ impl Quads {
     pub fn parts(&self) -> (&[Quad], &[Quad])
         ensures { self.now ≡ result.0.now ++ result.1.now }
     {
-        let first = match &self.first {
-            None => &[],
-            Some(quad) => slice::from_ref(quad),
-        };
-        (first, self.others.as_slice())
+        (self.first.quads(), self.others.as_slice())
     }
 }
 

@@ -1,10 +1,9 @@
 -- No quad of what a document says is ill-formed: whatever its form, its contexts and the order.
-use Rattle.std.proofs.Common.{if◌then◌else◌, ℕ, zero, suc, ◌<◌, ◌%◌, ◌/◌, ◌≡◌, refl, sym, ◌∙◌, ap, subst, Bool, true, false, not, ◌&&◌, ◌||◌, ◌==◌, nat_lt, List, [], ◌∷◌, ◌++◌, Option, Some, None, Result, Ok, Err, arith, codes, decimal, flat_map}
-use Rattle.std.specs.List.{list_all}
+use Rattle.std.proofs.Common.{ℕ, ◌≡◌, Bool, true, false, not, ◌&&◌, List, [], ◌∷◌, Option, Some, None, Result, Ok, Err}
 use Rattle.jl_model.specs.JsonTree.{Tree, scalar, array, object, Trees, no_item, item, Members, no_member, member}
 use Rattle.jl_model.specs.Parts.{Parts}
 use Rattle.jl_model.specs.declared.scalars.Scalar.{Scalar}
-use Rattle.jl_model.specs.declared.scalars.Scalar.TheVariants.{Null, Bool as boolean, Number, Str}
+use Rattle.jl_model.specs.declared.scalars.Scalar.TheVariants.{Null, Str}
 use Rattle.jl_model.specs.declared.codes.Code.{Code}
 use Rattle.jl_model.specs.declared.faults.Fault.{Fault}
 use Rattle.jl_model.specs.declared.terms.Term.{Term}
@@ -24,10 +23,10 @@ use Rattle.jl_defs.specs.Maps.{addition, entry_context, language_key, language_s
 use Rattle.jl_defs.specs.Expansion.{naming, type_strings, is_plain_graph}
 use Rattle.jl_defs.specs.NodeMap.{term_of_text, graph_of, rdf_type}
 use Rattle.jl_defs.specs.Dataset.{Head, link, term_of_value}
-use Rattle.jl_laws.specs.Spots.{Around, document, ordinary, graphs, map_entry, graph_map_entry, linked, loose, Spot, spot, inside, inside_list, stand_of, moved, Said, nothing, then_says, head, Own, Content, list_hangs}
-use Rattle.jl_laws.specs.Says.{scalar_in, scalar_at, decided_says, decided_quads, nested_quads, value_at_spot, graph_at_spot, object_says, inner_says, if_key_is, type_says, types_say, language_items_say, language_entry_says, language_entries_say, language_map_says, entry_around, in_entry, is_given, if_given, contained_says, by_form, by_key, property_head, graph_head, in_graph, walk, walk_all, walk_key, members_say, nested_says, all_nested_say, reversed_says, map_says, map_entries_say, says, root_spot}
-use Rattle.jl_frames.specs.Formed.{is_formed, formed}
-use Rattle.jl_frames.proofs.FormedTerms.{NodeOrNone, ObjectOrNone, FineScope, FineHead, FineValued, FineAddition, text-node, node-or, value-term, value-fine, value-object-fine, json-fine, addition-fine, language-fine, graph-fine}
+use Rattle.jl_laws.specs.Spots.{Around, document, ordinary, graphs, map_entry, graph_map_entry, linked, Spot, spot, inside, inside_list, stand_of, moved, Said, then_says, head, Own, Content, list_hangs}
+use Rattle.jl_laws.specs.Says.{scalar_in, scalar_at, decided_says, decided_quads, nested_quads, value_at_spot, graph_at_spot, object_says, inner_says, if_key_is, type_says, types_say, language_items_say, language_entry_says, language_entries_say, language_map_says, entry_around, in_entry, is_given, if_given, contained_says, by_form, by_key, property_head, in_graph, walk, walk_all, walk_key, members_say, nested_says, all_nested_say, reversed_says, map_says, map_entries_say, says, root_spot}
+use Rattle.jl_frames.specs.Formed.{formed}
+use Rattle.jl_frames.proofs.FormedTerms.{NodeOrNone, FineScope, FineHead, FineAddition, text-node, node-or, value-term, value-fine, value-object-fine, json-fine, addition-fine, language-fine, graph-fine}
 use Rattle.jl_frames.proofs.FormedHangs.{AllFormed, both-formed, all-kept, FineSaid, FineOwn, FineContent, link-formed, node-fine, scalar-fine, value-said, list-fine, list-formed, graph-object-fine, FineAround}
 
 then-fine : (first : Said) (next : Head → Said) → FineSaid first → ((h : Head) → FineHead h → FineSaid (next h)) → FineSaid (then_says first next)

@@ -13,8 +13,8 @@ use Rattle.jl_defs.specs.Items.{Naming, named, by_graph}
 use Rattle.jl_defs.specs.Values.{Valued, reference, literal, left_out, refused}
 use Rattle.jl_defs.specs.Maps.{Addition, adds_nothing, adds_name, adds_type, adds_property}
 use Rattle.jl_defs.specs.NodeMap.{term_of_text, term_of_node, graph_of, rdf_type}
-use Rattle.jl_defs.specs.Dataset.{Head, link, turned, with_terms, quad_in, cell_at, cell_head, is_whole, rdf_first, rdf_rest, rdf_nil, term_of_value}
-use Rattle.jl_laws.specs.Spots.{Hanging, linked, listed, loose, Around, document, ordinary, graphs, map_entry, graph_map_entry, Said, hangs, head, in_scope, added, named_by, Own, says_nothing, node_hangs, plain_node, graph_node, node_says, graph_object_says, no_content, value_says, scalar_says, Content, loose_content, ended, list_hangs, plain_list, list_says}
+use Rattle.jl_defs.specs.Dataset.{Head, link, turned, with_terms, quad_in, cell_at, cell_head, is_whole, rdf_first, rdf_nil, term_of_value}
+use Rattle.jl_laws.specs.Spots.{Hanging, linked, listed, loose, Around, document, ordinary, graphs, map_entry, graph_map_entry, Said, hangs, head, in_scope, added, named_by, Own, says_nothing, plain_node, graph_node, node_says, graph_object_says, no_content, value_says, scalar_says, Content, loose_content, ended, list_hangs, plain_list, list_says}
 use Rattle.jl_frames.specs.Formed.{is_node, is_object, is_graph, is_formed, formed}
 use Rattle.jl_frames.proofs.FormedTerms.{NodeOrNone, ObjectOrNone, FineScope, FineHead, FineValued, FineAddition, node-object, node-or, graph-fine, text-node, node-term, cell-node, value-term}
 

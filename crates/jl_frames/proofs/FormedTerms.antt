@@ -1,6 +1,6 @@
 -- The terms of texts, of nodes and of values are well-formed.
 use Rattle.std.proofs.Common.{if◌then◌else◌, ℕ, zero, suc, ◌+◌, ◌<◌, ◌%◌, ◌/◌, ◌≡◌, refl, sym, ◌∙◌, ap, subst, Bool, true, false, not, ◌&&◌, ◌||◌, ◌==◌, cond, inl, inr, List, [], ◌∷◌, ◌++◌, Option, Some, None, Result, Ok, Err, arith, codes, flat_map, drop, bytes_eq}
-use Rattle.std.proofs.lemmas.Bool.{cases_Bool, and_from, and_parts, eqb-true, ltb-true, ltb-false}
+use Rattle.std.proofs.lemmas.Bool.{cases_Bool, and_from, and_parts, eqb-true, ltb-true}
 use Rattle.std.proofs.lemmas.Slice.Eq.{bytes_eq-Decides}
 use Rattle.std.specs.List.{list_all}
 use Rattle.std.specs.Str.{is_utf8, chars}
@@ -15,7 +15,6 @@ use Rattle.jl_model.specs.Parts.{rdf_lang_string}
 use Rattle.jl_model.specs.declared.scalars.Scalar.{Scalar}
 use Rattle.jl_model.specs.declared.scalars.Scalar.TheVariants.{Null, Bool as boolean, Number, Str}
 use Rattle.jl_model.specs.declared.codes.Code.{Code}
-use Rattle.jl_model.specs.declared.terms.Lit.{Lit}
 use Rattle.jl_model.specs.declared.terms.Term.{Term}
 use Rattle.jl_model.specs.declared.terms.Term.TheVariants.{Iri, Blank, Literal}
 use Rattle.jl_model.specs.declared.expansions.Expanded.{Expanded}
@@ -34,10 +33,10 @@ use Rattle.jl_defs.specs.Values.{Valued, reference, literal, left_out, refused, 
 use Rattle.jl_defs.specs.ValueObjects as objects
 use Rattle.jl_defs.specs.ValueObjects.{ValueType, first_with, value_type, is_json_type, type_iri, string_or_none, json_number_value, json_value, typed_literal, object_value, value_in, unless_refused}
 use Rattle.jl_defs.specs.Numbers.{integer_number, double_number, json_number}
-use Rattle.jl_defs.specs.Maps.{Addition, adds_nothing, adds_name, adds_type, adds_property, name_added, type_added, property_added, index_added, addition_by, is_none_key, map_kind_of, addition, language_string}
-use Rattle.jl_defs.specs.NodeMap.{node_label, graph_label, term_of_text, term_of_node, graph_of}
-use Rattle.jl_defs.specs.Dataset.{Head, cell_at, term_of_literal, term_of_value, rdf_nil}
-use Rattle.jl_frames.specs.Formed.{is_node, is_language as is_fine_language, is_lit, is_object}
+use Rattle.jl_defs.specs.Maps.{Addition, adds_nothing, adds_property, name_added, type_added, property_added, index_added, addition_by, is_none_key, map_kind_of, addition, language_string}
+use Rattle.jl_defs.specs.NodeMap.{term_of_text, term_of_node, graph_of}
+use Rattle.jl_defs.specs.Dataset.{Head, cell_at, term_of_value}
+use Rattle.jl_frames.specs.Formed.{is_node, is_language as is_fine_language, is_object}
 
 -- a term where there is one is a node, or an object
 abbrev pub NodeOrNone : Option Term → Type 0

@@ -37,7 +37,7 @@ pub hooked_nobody : (n : Node) (p : Text) (o : Option Term) → n.subject ≡ No
 unfolding hang
 hooked_nobody n p o e = sym (ap (λ s. formed (link (head_in s p n.scope) o)) e ∙ no-subject p n.scope o)
 
-pub hooked_node : (n : Node) (p : Text) (o : Option Term) (s : Term) → n.subject ≡ Some s → hooked (Some (record { subject = s; predicate = p; scope = n.scope })) o ≡ hang n p o
+pub hooked_node : (n : Node) (p : Text) (o : Option Term) (s : Term) → n.subject ≡ Some s → formed (link (head_in (Some s) p n.scope) o) ≡ hang n p o
 unfolding hang
 hooked_node n p o s e = sym (ap (λ x. formed (link (head_in x p n.scope) o)) e)
 
@@ -74,7 +74,7 @@ left-out false s = refl
 abbrev pub scoped : GraphScope → Term → Text → Term → List Parts
 scoped scope s p o = formed (quad_in scope s p o)
 
-pub hooked_scope : (s : Term) (p : Text) (scope : GraphScope) (o : Term) → hooked (Some (record { subject = s; predicate = p; scope = scope })) (Some o) ≡ scoped scope s p o
+pub hooked_scope : (s : Term) (p : Text) (scope : GraphScope) (o : Term) → formed (link (head_in (Some s) p scope) (Some o)) ≡ scoped scope s p o
 unfolding link
 hooked_scope s p LeftOut o = left-out (is_iri p) (is_subject s)
 hooked_scope s p Main o = whole s p o None

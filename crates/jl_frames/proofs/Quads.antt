@@ -1,5 +1,5 @@
 -- Quads are left out where a part isn't well-formed, and the terms of texts.
-use Rattle.std.proofs.Common.{◌≡◌, refl, sym, ◌∙◌, ap, Bool, true, false, ◌&&◌, [], ◌∷◌, inl, inr, Option, Some, None, IsTrue, IsUtf8, ◌↔◌}
+use Rattle.std.proofs.Common.{◌≡◌, refl, sym, ◌∙◌, ap, Bool, true, false, ◌&&◌, [], ◌∷◌, inl, inr, Option, Some, None, IsSome, IfSome, IsTrue, IsUtf8, ◌↔◌}
 use Rattle.std.proofs.lemmas.Bool.{cases_Bool, and_from, and_parts}
 use Rattle.std.proofs.lemmas.Str.{IsUtf8-from_is_utf8, is_utf8-from_IsUtf8}
 use Rattle.std.proofs.lemmas.Slice.Eq.{bytes_eq-Decides}
@@ -12,7 +12,7 @@ use Rattle.jl_model.specs.declared.terms.Lit.{Lit}
 use Rattle.jl_model.specs.declared.terms.Term.{Term}
 use Rattle.jl_model.specs.declared.terms.Term.TheVariants.{Iri, Blank, Literal}
 use Rattle.jl_defs.specs.Texts.{Text, is_iri}
-use Rattle.jl_frames.specs.Formed.{is_node, is_language, is_lit, is_object, is_graph, is_formed, formed}
+use Rattle.jl_frames.specs.Formed.{is_node, is_language, is_lit, is_object, is_graph, is_formed, formed, listed}
 
 iri-is : (text : Text) → IsIri text → is_iri text ≡ true
 iri-is text h = and_from (has_iri_form text) (is_utf8 text) h.form (is_utf8-from_IsUtf8 text h.utf8)
@@ -99,3 +99,8 @@ kept q made h e = ap (λ x. x ∷ []) e ∙ sym (rw (formed-is q h) refl)
 
 pub left_out : (q : Parts) → (AreWellFormed q → ⊥) → [] ≡ formed (q ∷ [])
 left_out q h = elim (cases_Bool (is_formed q)) [ inl e ↦ absurd (h (is-formed q e)) | inr e ↦ sym (rw e refl) ]
+
+-- what was made of a quad's parts
+pub made : (quad : Option Parts) (q : Parts) → (IsSome quad ↔ AreWellFormed q) → IfSome quad (λ x. x ≡ q) → listed quad ≡ formed (q ∷ [])
+made None q same e = left_out q (λ h. absurd (let no = same.1 h in cc))
+made (Some x) q same e = kept q x (same.0 refl) e

@@ -13,6 +13,10 @@ abbrev pub listed : {A : Type 0} → Option A → List A
 listed None = []
 listed (Some x) = x ∷ []
 
+abbrev pub all_listed : {A : Type 0} → Option (Option A) → List A
+all_listed None = []
+all_listed (Some o) = listed o
+
 abbrev pub is_node : Term → Bool
 is_node (Iri iri) = is_iri iri
 is_node (Blank label) = is_kept_label label

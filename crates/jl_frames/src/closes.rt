@@ -50,13 +50,14 @@ impl StackState {
     }
 
     /// What the innermost object gives.
+    #[inline(always)]
     fn ended(&self, alloc: Global) -> Result<Ended, FrameStop>
         ensures ok { IfOk result (λ ended. spec.ended_of self.now.node (spec.is_outside (spec.outer_of self.now.opens)) ≡ Ok ended) }
         ensures err { IfErr result (λ stop. HasCause stop (spec.ended_of self.now.node (spec.is_outside (spec.outer_of self.now.opens)))) }
     {
         match &self.node {
             None => Ok(Ended::Nothing),
-            Some(node) => node.end(alloc, self.opens.outer().is_none()),
+            Some(node) => node.node().end(alloc, self.opens.outer().is_none()),
         }
     }
 
@@ -82,7 +83,7 @@ impl StackState {
         }
         match closed {
             None => None,
-            Some(node) => node.subject,
+            Some(node) => node.into_subject(),
         }
     }
 
@@ -116,7 +117,7 @@ impl StackState {
     {
         match self.opens.outer() {
             None => Ok(None),
-            Some(node) => node.hook(alloc),
+            Some(node) => node.node().hook(alloc),
         }
     }
 

@@ -16,6 +16,7 @@ use std::alloc::Global;
 
 impl Node {
     /// What the object gives as it closes, outside of all properties or under one.
+    #[inline(always)]
     #[tactic(auto, unfolding(crate::specs::Closing::end_of))]
     pub fn end(&self, alloc: Global, drops: bool) -> Result<Ended, FrameStop>
         ensures ok { IfOk result (λ ended. spec.end_of self.now drops ≡ Ok ended) }
@@ -32,6 +33,7 @@ impl Node {
 }
 
 impl ValueParts {
+    #[inline(never)]
     fn end(
         &self,
         alloc: Global,

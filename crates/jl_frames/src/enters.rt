@@ -9,6 +9,7 @@ use super::emits::Emits;
 use super::facts::Frame;
 use super::keywords::Keyword;
 use super::nodes::{Node, Pending, wrong_form};
+use super::open_nodes::OpenNode;
 use super::opens::Open;
 use super::roles::Role;
 use super::states::{FrameStop, StackState};
@@ -27,7 +28,7 @@ impl StackState {
         let Some(node) = &self.node else {
             return self.on_frame(frame);
         };
-        match node.pending {
+        match node.node().pending {
             Pending::Property(_) => self.on_frame(frame),
             Pending::Keyword { at, keyword } => self.on_types(at, keyword, frame.role),
             Pending::Nothing | Pending::Ignored => self.open_dropped(),
@@ -65,9 +66,12 @@ impl StackState {
         ensures err { IfErr result (λ stop. stop ≡ FrameStop.NoMemory) }
         ensures kept { OnErr result (self.new ≡ self.old) }
     {
+        let Ok(node) = OpenNode::new(self.opens.allocator(), Node::opened(frame)) else {
+            return Err(FrameStop::NoMemory);
+        };
         match self.opens.push(Open::Object(self.node.take())) {
             Ok(()) => {
-                self.node = Some(Node::opened(frame));
+                self.node = Some(node);
                 Ok(Emits::none())
             }
             Err(back) => {
@@ -134,7 +138,7 @@ impl StackState {
         ensures { self.new ≡ record self.old { node = spec.all_holding self.old.node } }
     {
         if let Some(node) = &mut self.node {
-            node.entries.property = true;
+            node.hold();
         }
     }
 }

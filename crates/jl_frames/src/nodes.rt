@@ -156,6 +156,7 @@ impl Node {
     }
 
     /// Where the values hang of the property that is open.
+    #[inline(always)]
     pub fn hook(&self, alloc: Global) -> Result<Option<Hook>, NoMemory>
         ensures { IfOk result (λ hook. (o : Option Term) → spec.hooked hook o ≡ spec.hang_pending self.now o) }
     {

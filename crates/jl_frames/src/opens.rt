@@ -4,7 +4,7 @@ ghost use Rattle.std.specs.Option.{option_copied};
 ghost use Rattle.jl_frames.specs.declared.opens.Open.{Open};
 ghost use Rattle.jl_frames.specs.Machine.{in_object, in_dropped, outer_of, rest_of};
 
-use super::nodes::Node;
+use super::open_nodes::OpenNode;
 use std::alloc::Global;
 use std::marker::Model;
 
@@ -16,12 +16,12 @@ pub enum Open {
     /// A container that says nothing.
     Dropped,
     /// An object, with the object round it, if there is one.
-    Object(Option<Node>),
+    Object(Option<OpenNode>),
 }
 
 impl Open {
     /// The object round an object.
-    pub fn into_node(self) -> Option<Node>
+    pub fn into_node(self) -> Option<OpenNode>
         ensures { result ≡ outer_of (self ∷ []) }
     {
         match self {
@@ -54,6 +54,11 @@ impl Opens {
         Opens {
             list: Vec::new(alloc),
         }
+    }
+
+    /// Where the list takes its memory, and what is kept for its containers may.
+    pub fn allocator(&self) -> Global {
+        *self.list.allocator()
     }
 
     /// Opens a container inside the others. After want of memory it is handed back.
@@ -96,7 +101,7 @@ impl Opens {
     }
 
     /// The object round the innermost one, lent, where that is an object itself.
-    pub fn outer(&self) -> Option<&Node>
+    pub fn outer(&self) -> Option<&OpenNode>
         ensures { option_copied result ≡ outer_of self.now }
     {
         match self.innermost() {

@@ -3,7 +3,7 @@ ghost use Rattle.std.specs.Prelude.{◌≡◌, OnOk, IfErr};
 ghost use Rattle.jl_frames.specs.Answers.{after_stop};
 
 use super::emits::Emits;
-use super::nodes::Node;
+use super::open_nodes::OpenNode;
 use super::opens::Opens;
 use jl_model::{Fault, NoMemory};
 
@@ -11,7 +11,7 @@ use jl_model::{Fault, NoMemory};
 #[derive(Debug, Drop)]
 pub struct StackState {
     /// The innermost open object, if there is one.
-    pub node: Option<Node>,
+    pub node: Option<OpenNode>,
     /// The open containers.
     pub opens: Opens,
     /// The fault that it answers from now on.
@@ -20,6 +20,7 @@ pub struct StackState {
 
 impl StackState {
     /// The answer of a call. A refusal is kept, to be answered from then on.
+    #[inline(always)]
     pub(crate) fn told(&mut self, answer: Result<Emits, FrameStop>) -> Result<Emits, FrameStop>
         ensures same { result ≡ answer }
         ensures ok { OnOk result (self.new ≡ self.old) }

@@ -5,7 +5,6 @@ ghost use Rattle.jl_frames.specs.Machine as spec;
 
 use super::emits::Emits;
 use super::facts::{KeyFact, ValueFact};
-use super::nodes::Pending;
 use super::states::{FrameStop, StackState};
 use std::alloc::Global;
 
@@ -71,7 +70,7 @@ impl StackState {
         ensures { self.new ≡ record self.old { node = spec.all_rested self.old.node } }
     {
         if let Some(node) = &mut self.node {
-            node.pending = Pending::Nothing;
+            node.rest();
         }
     }
 }

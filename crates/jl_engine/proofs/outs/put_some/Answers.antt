@@ -1,6 +1,6 @@
 use Rattle.jl_engine.proofs.Outcomes.{on_err}
 use Rattle.jl_engine.proofs.Saying.{some_then}
-use Rattle.jl_engine.proofs.outs.put_all.Goals as goal
+use Rattle.jl_engine.proofs.outs.put_some.Goals as goal
 
 pub returns-clause-some : goal.returns-clause-some
 returns-clause-some g c =

@@ -1,0 +1,97 @@
+//! Open objects, each behind one pointer.
+ghost use Rattle.std.specs.Prelude.{◌≡◌, Ok, Err, IfOk, IfErr, OnOk, OnErr};
+ghost use Rattle.jl_frames.specs.Answers.{HasCause};
+ghost use Rattle.jl_frames.specs.Nodes as spec;
+
+use super::emits::Emits;
+use super::facts::{KeyFact, ValueFact};
+use super::nodes::{Node, Pending};
+use super::states::FrameStop;
+use jl_model::{Fault, NoMemory, Term};
+use std::alloc::Global;
+use std::marker::Model;
+
+/// An object that is open, which contracts see as what it keeps. It moves as one pointer.
+#[derive(Debug, Drop)]
+pub struct OpenNode {
+    place: Box<Node>,
+}
+
+impl Model for OpenNode {
+    ghost use Rattle.jl_frames.specs.declared.nodes.Node.{Node};
+
+    ghost Value = { Node };
+
+    ghost view = { λ node. node.place.value };
+}
+
+impl OpenNode {
+    /// An object that keeps this.
+    pub fn new(alloc: Global, node: Node) -> Result<OpenNode, NoMemory>
+        ensures { IfOk result (λ open_node. open_node ≡ node) }
+    {
+        match Box::new(alloc, node) {
+            Ok(place) => Ok(OpenNode { place }),
+            Err(_) => Err(NoMemory),
+        }
+    }
+
+    /// What it keeps, lent.
+    #[inline(always)]
+    pub fn node(&self) -> &Node
+        ensures { result.now ≡ self.now }
+    {
+        &self.place
+    }
+
+    /// The name of the node, where it is well-formed. The rest goes.
+    pub fn into_subject(self) -> Option<Term>
+        ensures { result ≡ self.subject }
+    {
+        let node = Box::into_inner(self.place);
+        node.subject
+    }
+
+    /// Takes a key.
+    #[inline(always)]
+    pub fn take_key(&mut self, key: KeyFact) -> Result<(), Fault>
+        ensures ok { OnOk result (spec.take_key key self.old ≡ Ok self.new) }
+        ensures err { IfErr result (λ fault. spec.take_key key self.old ≡ Err fault) }
+        ensures kept { OnErr result (self.new ≡ self.old) }
+    {
+        self.place.take_key(key)
+    }
+
+    /// Takes a scalar as the value of the key read last, or in an array there.
+    #[inline(always)]
+    pub fn take_scalar(&mut self, alloc: Global, fact: ValueFact) -> Result<Emits, FrameStop>
+        ensures ok { IfOk result (λ quads. spec.take_scalar fact self.old ≡ Ok (quads, self.new)) }
+        ensures err { IfErr result (λ stop. HasCause stop (spec.take_scalar fact self.old)) }
+        ensures kept { OnErr result (self.new ≡ self.old) }
+    {
+        self.place.take_scalar(alloc, fact)
+    }
+
+    /// An array of types has opened: a value object has no type then.
+    pub fn take_types(&mut self)
+        ensures { self.new ≡ spec.with_many_kinds self.old }
+    {
+        self.place.take_types();
+    }
+
+    /// A property gave something.
+    #[inline(always)]
+    pub fn hold(&mut self)
+        ensures { self.new ≡ spec.holding self.old }
+    {
+        self.place.entries.property = true;
+    }
+
+    /// The value of the key read last has ended.
+    #[inline(always)]
+    pub fn rest(&mut self)
+        ensures { self.new ≡ spec.rested self.old }
+    {
+        self.place.pending = Pending::Nothing;
+    }
+}
