@@ -20,17 +20,21 @@ use Rattle.jl_engine.proofs.DecidedTrees.{events-append}
 tokens_both : (c : Context) (xs ys : List Token) (u : Cursor) → events_step c (events_of (xs ++ ys)) u ≡ then_told (events_step c (events_of xs) u).0 (events_step c (events_of ys) (events_step c (events_of xs) u).1)
 tokens_both c xs ys u = ap (λ es. events_step c es u) (events-of-append xs ys) ∙ events-append c (events_of xs) (events_of ys) u
 
-pub tokens_on : (c d : Context) (xs ys : List Token) (u at : Cursor) (quads more : List Parts) (s next : StackState) → d ≡ c → at ≡ (events_step c (events_of xs) u).1
-    → gather (events_step c (events_of xs) u).0 quads s ≡ Ok (more, next) → gather (events_step c (events_of (xs ++ ys)) u).0 quads s ≡ gather (events_step d (events_of ys) at).0 more next
-tokens_on c d xs ys u at quads more s next same is e =
+pub tokens_on : (c d : Context) (xs ys zs : List Token) (u at : Cursor) (quads more : List Parts) (s next : StackState) → d ≡ c → zs ≡ ys → at ≡ (events_step c (events_of xs) u).1
+    → gather (events_step c (events_of xs) u).0 quads s ≡ Ok (more, next) → gather (events_step c (events_of (xs ++ ys)) u).0 quads s ≡ gather (events_step d (events_of zs) at).0 more next
+tokens_on c d xs ys zs u at quads more s next same tokens is e =
     ap (λ t. gather t.0 quads s) (tokens_both c xs ys u)
     ∙ gather_on (events_step c (events_of xs) u).0 (events_step c (events_of ys) (events_step c (events_of xs) u).1).0 quads more s next e
     ∙ ap (λ w. gather (events_step c (events_of ys) w).0 more next) (sym is)
     ∙ ap (λ w. gather (events_step w (events_of ys) at).0 more next) (sym same)
+    ∙ ap (λ w. gather (events_step d (events_of w) at).0 more next) (sym tokens)
 
-pub tokens_behind : (c d : Context) (xs ys : List Token) (u at : Cursor) → d ≡ c → at ≡ (events_step c (events_of xs) u).1 → (events_step c (events_of (xs ++ ys)) u).1 ≡ (events_step d (events_of ys) at).1
-tokens_behind c d xs ys u at same is =
-    ap (λ t. t.1) (tokens_both c xs ys u) ∙ ap (λ w. (events_step c (events_of ys) w).1) (sym is) ∙ ap (λ w. (events_step w (events_of ys) at).1) (sym same)
+pub tokens_behind : (c d : Context) (xs ys zs : List Token) (u at : Cursor) → d ≡ c → zs ≡ ys → at ≡ (events_step c (events_of xs) u).1 → (events_step c (events_of (xs ++ ys)) u).1 ≡ (events_step d (events_of zs) at).1
+tokens_behind c d xs ys zs u at same tokens is =
+    ap (λ t. t.1) (tokens_both c xs ys u)
+    ∙ ap (λ w. (events_step c (events_of ys) w).1) (sym is)
+    ∙ ap (λ w. (events_step w (events_of ys) at).1) (sym same)
+    ∙ ap (λ w. (events_step d (events_of w) at).1) (sym tokens)
 
 pub tokens_stop : (c : Context) (xs ys : List Token) (u : Cursor) (quads : List Parts) (s : StackState) (why : FrameStop)
     → HasCause why (gather (events_step c (events_of xs) u).0 quads s) → HasCause why (gather (events_step c (events_of (xs ++ ys)) u).0 quads s)

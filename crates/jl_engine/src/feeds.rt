@@ -1,13 +1,15 @@
 //! Bytes, one after another.
-ghost use Rattle.std.specs.Prelude.{◌≡◌, ◌<◌, ◌≤◌, ◌+◌, ◌-◌, ◌^◌, ℕ, List, [], ◌∷◌, ◌++◌, length, take, min, option_to_list, true, false, Ok, OnOk, OnErr, IfOk, IfErr, IsErrOf};
+ghost use Rattle.std.specs.Prelude.{◌≡◌, ◌<◌, ◌≤◌, ◌+◌, ◌-◌, ◌^◌, ℕ, List, [], ◌∷◌, ◌++◌, length, take, min, option_to_list, true, false, Ok, OnOk, OnErr, IfOk, IfErr, IfSome, IsSome, IsErrOf};
 ghost use Rattle.jl_model.specs.Causes as causes;
 ghost use Rattle.jl_model.specs.Parts.{Parts};
 ghost use Rattle.jl_defs.specs.Settings.{Settings};
-ghost use Rattle.jl_token.specs.Lexed.{tokens_of};
+ghost use Rattle.jl_token.specs.declared.readings.Reading.{Reading};
+ghost use Rattle.jl_token.specs.Lexed.{number_of, token_of, told};
 ghost use Rattle.jl_context.specs.Contexts.{context_of};
 ghost use Rattle.jl_frames.specs.Answers.{HasCause};
 ghost use Rattle.jl_engine.specs.Gathers.{gather};
 ghost use Rattle.jl_engine.specs.Saying.{Says, SaysSome, StopsSaying};
+ghost use Rattle.jl_engine.specs.Stops.{of_lexer};
 ghost use Rattle.jl_engine.specs.Standing.{Stands, Fed, Stopped, Finished, StoppedAtEnd, WerePut};
 ghost use Rattle.jl_engine.specs.Translation.{events_step};
 ghost use Rattle.jl_engine.specs.TreeEvents.{events_of};
@@ -18,8 +20,8 @@ use crate::outs::put_all;
 use crate::stops::Stop;
 use crate::tellings::Quads;
 use jl_frames::FrameStop;
-use jl_model::{QuadOut, Token};
-use jl_token::Step;
+use jl_model::{NoMemory, QuadOut, Token};
+use jl_token::{Sign, Signs};
 use std::alloc::Global;
 
 impl EngineState {
@@ -54,6 +56,7 @@ impl EngineState {
 
     /// Reads some bytes from the front of a piece, and tells how many: a run of a string's bytes, or
     /// else one byte.
+    #[inline(always)]
     fn feed_some<O: QuadOut>(
         &mut self,
         alloc: Global,
@@ -91,6 +94,7 @@ impl EngineState {
     }
 
     /// Reads one more byte.
+    #[inline(always)]
     fn feed_byte<O: QuadOut>(&mut self, alloc: Global, byte: u8, out: &mut O) -> Result<(), Stop>
         requires live { self.old.lexer.ended ≡ false }
         ensures fed { OnOk result ((s : Settings) (bytes : List ℕ) (quads : List Parts) → Stands s bytes quads self.old
@@ -104,11 +108,210 @@ impl EngineState {
         ensures cause { causes.HasCause (O.faults out.old) (O.faults out.new) (IsErrOf result Stop.OutFault) }
         ensures beside { O.beside out.old out.new }
     {
-        self.bytes = self.lexer.place().saturating_add(1);
-        match self.lexer.step(alloc, byte) {
-            Err(stop) => Err(Stop::of_lexer(stop)),
-            Ok(step) => self.say(alloc, step, out),
+        let at = self.lexer.place();
+        self.bytes = at.saturating_add(1);
+        match self.lexer.advance(alloc, byte) {
+            Some(signs) => self.say(alloc, signs, at, out),
+            None => Err(self.lexer_stop()),
         }
+    }
+
+    /// Why the lexer has stopped.
+    #[inline(never)]
+    fn lexer_stop(&self) -> Stop
+        requires { IsSome self.now.lexer.stopped }
+        ensures { IfSome self.now.lexer.stopped (λ stop. result ≡ of_lexer stop) }
+    {
+        match self.lexer.state().stopped {
+            Some(stop) => Stop::of_lexer(stop),
+            None => unreachable!(),
+        }
+    }
+
+    /// Tells the facts of what a byte completes, and puts their quads once none of them is at fault.
+    #[inline(always)]
+    fn say<O: QuadOut>(
+        &mut self,
+        alloc: Global,
+        signs: Signs,
+        at: u64,
+        out: &mut O,
+    ) -> Result<(), Stop>
+        ensures says { OnOk result (Says (events_step (context_of self.old.context) (events_of (told signs at self.old.lexer.reading)) self.old.cursor).0 self.old.stack self.new.stack (O.tells out.old) (O.tells out.new) (O.selects out.old)) }
+        ensures cursor { OnOk result (self.new.cursor ≡ (events_step (context_of self.old.context) (events_of (told signs at self.old.lexer.reading)) self.old.cursor).1) }
+        ensures some { OnErr result (SaysSome (events_step (context_of self.old.context) (events_of (told signs at self.old.lexer.reading)) self.old.cursor).0 self.old.stack (O.tells out.old) (O.tells out.new) (O.selects out.old)) }
+        ensures stop { IfErr result (StopsSaying (events_step (context_of self.old.context) (events_of (told signs at self.old.lexer.reading)) self.old.cursor).0 self.old.stack) }
+        ensures kept { self.new ≡ record self.old { cursor = self.new.cursor; stack = self.new.stack } }
+        ensures selects { (q : Parts) → O.selects out.new q ≡ O.selects out.old q }
+        ensures cause { causes.HasCause (O.faults out.old) (O.faults out.new) (IsErrOf result Stop.OutFault) }
+        ensures beside { O.beside out.old out.new }
+    {
+        if is_silent(signs) {
+            return Ok(());
+        }
+        self.say_signs(alloc, signs, at, out)
+    }
+
+    /// The same, where it completes something: so this stands apart from what runs for each byte.
+    #[inline(never)]
+    fn say_signs<O: QuadOut>(
+        &mut self,
+        alloc: Global,
+        signs: Signs,
+        at: u64,
+        out: &mut O,
+    ) -> Result<(), Stop>
+        ensures says { OnOk result (Says (events_step (context_of self.old.context) (events_of (told signs at self.old.lexer.reading)) self.old.cursor).0 self.old.stack self.new.stack (O.tells out.old) (O.tells out.new) (O.selects out.old)) }
+        ensures cursor { OnOk result (self.new.cursor ≡ (events_step (context_of self.old.context) (events_of (told signs at self.old.lexer.reading)) self.old.cursor).1) }
+        ensures some { OnErr result (SaysSome (events_step (context_of self.old.context) (events_of (told signs at self.old.lexer.reading)) self.old.cursor).0 self.old.stack (O.tells out.old) (O.tells out.new) (O.selects out.old)) }
+        ensures stop { IfErr result (StopsSaying (events_step (context_of self.old.context) (events_of (told signs at self.old.lexer.reading)) self.old.cursor).0 self.old.stack) }
+        ensures kept { self.new ≡ record self.old { cursor = self.new.cursor; stack = self.new.stack } }
+        ensures selects { (q : Parts) → O.selects out.new q ≡ O.selects out.old q }
+        ensures cause { causes.HasCause (O.faults out.old) (O.faults out.new) (IsErrOf result Stop.OutFault) }
+        ensures beside { O.beside out.old out.new }
+    {
+        let mut quads = Quads::none(alloc);
+        self.say_by(alloc, signs, at, &mut quads, out)
+    }
+
+    /// The same, where the quads are gathered in the empty list that is lent.
+    fn say_by<O: QuadOut>(
+        &mut self,
+        alloc: Global,
+        signs: Signs,
+        at: u64,
+        quads: &mut Quads,
+        out: &mut O,
+    ) -> Result<(), Stop>
+        requires { quads.old ≡ [] }
+        ensures says { OnOk result (Says (events_step (context_of self.old.context) (events_of (told signs at self.old.lexer.reading)) self.old.cursor).0 self.old.stack self.new.stack (O.tells out.old) (O.tells out.new) (O.selects out.old)) }
+        ensures cursor { OnOk result (self.new.cursor ≡ (events_step (context_of self.old.context) (events_of (told signs at self.old.lexer.reading)) self.old.cursor).1) }
+        ensures some { OnErr result (SaysSome (events_step (context_of self.old.context) (events_of (told signs at self.old.lexer.reading)) self.old.cursor).0 self.old.stack (O.tells out.old) (O.tells out.new) (O.selects out.old)) }
+        ensures stop { IfErr result (StopsSaying (events_step (context_of self.old.context) (events_of (told signs at self.old.lexer.reading)) self.old.cursor).0 self.old.stack) }
+        ensures kept { self.new ≡ record self.old { cursor = self.new.cursor; stack = self.new.stack } }
+        ensures selects { (q : Parts) → O.selects out.new q ≡ O.selects out.old q }
+        ensures cause { causes.HasCause (O.faults out.old) (O.faults out.new) (IsErrOf result Stop.OutFault) }
+        ensures beside { O.beside out.old out.new }
+    {
+        match self.tell_signs(alloc, signs, at, quads) {
+            Err(stop) => Err(Stop::of_facts(stop)),
+            Ok(()) => put_all(quads, out),
+        }
+    }
+
+    /// Tells the facts of what a byte completes.
+    fn tell_signs(
+        &mut self,
+        alloc: Global,
+        signs: Signs,
+        at: u64,
+        quads: &mut Quads,
+    ) -> Result<(), FrameStop>
+        ensures told { OnOk result (gather (events_step (context_of self.old.context) (events_of (told signs at self.old.lexer.reading)) self.old.cursor).0 quads.old self.old.stack ≡ Ok (quads.new, self.new.stack)) }
+        ensures cursor { OnOk result (self.new.cursor ≡ (events_step (context_of self.old.context) (events_of (told signs at self.old.lexer.reading)) self.old.cursor).1) }
+        ensures stops { IfErr result (λ stop. HasCause stop (gather (events_step (context_of self.old.context) (events_of (told signs at self.old.lexer.reading)) self.old.cursor).0 quads.old self.old.stack)) }
+        ensures kept { self.new ≡ record self.old { cursor = self.new.cursor; stack = self.new.stack } }
+    {
+        match self.tell_number(alloc, signs.number, quads) {
+            Ok(()) => self.tell_sign(alloc, signs.sign, at, quads),
+            Err(stop) => Err(stop),
+        }
+    }
+
+    /// Tells the facts of the number that ended before a byte, if there is one.
+    #[tactic(auto, unfolding(crate::specs::Gathers::gather, crate::specs::Translation::events_step))]
+    fn tell_number(
+        &mut self,
+        alloc: Global,
+        number: bool,
+        quads: &mut Quads,
+    ) -> Result<(), FrameStop>
+        ensures told { OnOk result (gather (events_step (context_of self.old.context) (events_of (number_of number self.old.lexer.reading)) self.old.cursor).0 quads.old self.old.stack ≡ Ok (quads.new, self.new.stack)) }
+        ensures cursor { OnOk result (self.new.cursor ≡ (events_step (context_of self.old.context) (events_of (number_of number self.old.lexer.reading)) self.old.cursor).1) }
+        ensures stops { IfErr result (λ stop. HasCause stop (gather (events_step (context_of self.old.context) (events_of (number_of number self.old.lexer.reading)) self.old.cursor).0 quads.old self.old.stack)) }
+        ensures kept { self.new ≡ record self.old { cursor = self.new.cursor; stack = self.new.stack } }
+    {
+        if !number {
+            return Ok(());
+        }
+        match Event::of_number(alloc, &self.lexer.state().reading) {
+            Ok(event) => self.tell_event(alloc, event, quads),
+            Err(NoMemory) => Err(FrameStop::NoMemory),
+        }
+    }
+
+    /// Tells the facts of the sign of the byte at this place.
+    fn tell_sign(
+        &mut self,
+        alloc: Global,
+        sign: Sign,
+        at: u64,
+        quads: &mut Quads,
+    ) -> Result<(), FrameStop>
+        ensures told { OnOk result (gather (events_step (context_of self.old.context) (events_of (token_of sign at self.old.lexer.reading)) self.old.cursor).0 quads.old self.old.stack ≡ Ok (quads.new, self.new.stack)) }
+        ensures cursor { OnOk result (self.new.cursor ≡ (events_step (context_of self.old.context) (events_of (token_of sign at self.old.lexer.reading)) self.old.cursor).1) }
+        ensures stops { IfErr result (λ stop. HasCause stop (gather (events_step (context_of self.old.context) (events_of (token_of sign at self.old.lexer.reading)) self.old.cursor).0 quads.old self.old.stack)) }
+        ensures kept { self.new ≡ record self.old { cursor = self.new.cursor; stack = self.new.stack } }
+    {
+        match Event::of_sign(alloc, sign, at, &self.lexer.state().reading) {
+            Ok(event) => self.tell_some(alloc, event, quads),
+            Err(NoMemory) => Err(FrameStop::NoMemory),
+        }
+    }
+
+    /// Tells the facts of an event, if there is one.
+    #[tactic(auto, unfolding(crate::specs::Gathers::gather, crate::specs::Translation::events_step))]
+    fn tell_some(
+        &mut self,
+        alloc: Global,
+        event: Option<Event>,
+        quads: &mut Quads,
+    ) -> Result<(), FrameStop>
+        ensures told { OnOk result (gather (events_step (context_of self.old.context) (option_to_list event) self.old.cursor).0 quads.old self.old.stack ≡ Ok (quads.new, self.new.stack)) }
+        ensures cursor { OnOk result (self.new.cursor ≡ (events_step (context_of self.old.context) (option_to_list event) self.old.cursor).1) }
+        ensures stops { IfErr result (λ stop. HasCause stop (gather (events_step (context_of self.old.context) (option_to_list event) self.old.cursor).0 quads.old self.old.stack)) }
+        ensures kept { self.new ≡ record self.old { cursor = self.new.cursor; stack = self.new.stack } }
+    {
+        match event {
+            None => Ok(()),
+            Some(event) => self.tell_event(alloc, event, quads),
+        }
+    }
+
+    /// Tells the facts of a token, if there is one.
+    #[tactic(auto, unfolding(crate::specs::Gathers::gather, crate::specs::Translation::events_step))]
+    fn tell_token(
+        &mut self,
+        alloc: Global,
+        token: Option<Token>,
+        quads: &mut Quads,
+    ) -> Result<(), FrameStop>
+        ensures told { OnOk result (gather (events_step (context_of self.old.context) (events_of (option_to_list token)) self.old.cursor).0 quads.old self.old.stack ≡ Ok (quads.new, self.new.stack)) }
+        ensures cursor { OnOk result (self.new.cursor ≡ (events_step (context_of self.old.context) (events_of (option_to_list token)) self.old.cursor).1) }
+        ensures stops { IfErr result (λ stop. HasCause stop (gather (events_step (context_of self.old.context) (events_of (option_to_list token)) self.old.cursor).0 quads.old self.old.stack)) }
+        ensures kept { self.new ≡ record self.old { cursor = self.new.cursor; stack = self.new.stack } }
+    {
+        match token {
+            None => Ok(()),
+            Some(token) => self.tell_event(alloc, Event::of(token), quads),
+        }
+    }
+
+    /// Tells the facts of an event.
+    #[tactic(auto, unfolding(crate::specs::Gathers::gather, crate::specs::Translation::events_step))]
+    fn tell_event(
+        &mut self,
+        alloc: Global,
+        event: Event,
+        quads: &mut Quads,
+    ) -> Result<(), FrameStop>
+        ensures told { OnOk result (gather (events_step (context_of self.old.context) (event ∷ []) self.old.cursor).0 quads.old self.old.stack ≡ Ok (quads.new, self.new.stack)) }
+        ensures cursor { OnOk result (self.new.cursor ≡ (events_step (context_of self.old.context) (event ∷ []) self.old.cursor).1) }
+        ensures stops { IfErr result (λ stop. HasCause stop (gather (events_step (context_of self.old.context) (event ∷ []) self.old.cursor).0 quads.old self.old.stack)) }
+        ensures kept { self.new ≡ record self.old { cursor = self.new.cursor; stack = self.new.stack } }
+    {
+        self.cursor
+            .step(alloc, &self.context, event, &mut self.stack, quads)
     }
 
     /// Ends the document: what only its end completes is said.
@@ -128,99 +331,62 @@ impl EngineState {
     {
         match self.lexer.finish(alloc) {
             Err(stop) => Err(Stop::of_lexer(stop)),
-            Ok(number) => {
-                let step = Step {
-                    first: number,
-                    second: None,
-                };
-                self.say(alloc, step, out)
-            }
+            Ok(number) => self.say_last(alloc, number, out),
         }
     }
 
-    /// Tells the facts of a step's tokens, and puts their quads once none of them is at fault.
-    fn say<O: QuadOut>(&mut self, alloc: Global, step: Step, out: &mut O) -> Result<(), Stop>
-        ensures says { OnOk result (Says (events_step (context_of self.old.context) (events_of (tokens_of step)) self.old.cursor).0 self.old.stack self.new.stack (O.tells out.old) (O.tells out.new) (O.selects out.old)) }
-        ensures cursor { OnOk result (self.new.cursor ≡ (events_step (context_of self.old.context) (events_of (tokens_of step)) self.old.cursor).1) }
-        ensures some { OnErr result (SaysSome (events_step (context_of self.old.context) (events_of (tokens_of step)) self.old.cursor).0 self.old.stack (O.tells out.old) (O.tells out.new) (O.selects out.old)) }
-        ensures stop { IfErr result (StopsSaying (events_step (context_of self.old.context) (events_of (tokens_of step)) self.old.cursor).0 self.old.stack) }
+    /// Tells the facts of the number that the end completes, if there is one, and puts their quads.
+    fn say_last<O: QuadOut>(
+        &mut self,
+        alloc: Global,
+        token: Option<Token>,
+        out: &mut O,
+    ) -> Result<(), Stop>
+        ensures says { OnOk result (Says (events_step (context_of self.old.context) (events_of (option_to_list token)) self.old.cursor).0 self.old.stack self.new.stack (O.tells out.old) (O.tells out.new) (O.selects out.old)) }
+        ensures cursor { OnOk result (self.new.cursor ≡ (events_step (context_of self.old.context) (events_of (option_to_list token)) self.old.cursor).1) }
+        ensures some { OnErr result (SaysSome (events_step (context_of self.old.context) (events_of (option_to_list token)) self.old.cursor).0 self.old.stack (O.tells out.old) (O.tells out.new) (O.selects out.old)) }
+        ensures stop { IfErr result (StopsSaying (events_step (context_of self.old.context) (events_of (option_to_list token)) self.old.cursor).0 self.old.stack) }
         ensures kept { self.new ≡ record self.old { cursor = self.new.cursor; stack = self.new.stack } }
         ensures selects { (q : Parts) → O.selects out.new q ≡ O.selects out.old q }
         ensures cause { causes.HasCause (O.faults out.old) (O.faults out.new) (IsErrOf result Stop.OutFault) }
         ensures beside { O.beside out.old out.new }
     {
-        if is_silent(&step) {
-            return Ok(());
-        }
         let mut quads = Quads::none(alloc);
-        self.say_by(alloc, step, &mut quads, out)
+        self.say_last_by(alloc, token, &mut quads, out)
     }
 
     /// The same, where the quads are gathered in the empty list that is lent.
-    fn say_by<O: QuadOut>(
-        &mut self,
-        alloc: Global,
-        step: Step,
-        quads: &mut Quads,
-        out: &mut O,
-    ) -> Result<(), Stop>
-        requires { quads.old ≡ [] }
-        ensures says { OnOk result (Says (events_step (context_of self.old.context) (events_of (tokens_of step)) self.old.cursor).0 self.old.stack self.new.stack (O.tells out.old) (O.tells out.new) (O.selects out.old)) }
-        ensures cursor { OnOk result (self.new.cursor ≡ (events_step (context_of self.old.context) (events_of (tokens_of step)) self.old.cursor).1) }
-        ensures some { OnErr result (SaysSome (events_step (context_of self.old.context) (events_of (tokens_of step)) self.old.cursor).0 self.old.stack (O.tells out.old) (O.tells out.new) (O.selects out.old)) }
-        ensures stop { IfErr result (StopsSaying (events_step (context_of self.old.context) (events_of (tokens_of step)) self.old.cursor).0 self.old.stack) }
-        ensures kept { self.new ≡ record self.old { cursor = self.new.cursor; stack = self.new.stack } }
-        ensures selects { (q : Parts) → O.selects out.new q ≡ O.selects out.old q }
-        ensures cause { causes.HasCause (O.faults out.old) (O.faults out.new) (IsErrOf result Stop.OutFault) }
-        ensures beside { O.beside out.old out.new }
-    {
-        match self.tell_step(alloc, step, quads) {
-            Err(stop) => Err(Stop::of_facts(stop)),
-            Ok(()) => put_all(quads, out),
-        }
-    }
-
-    /// Tells the facts of a step's tokens.
-    fn tell_step(&mut self, alloc: Global, step: Step, quads: &mut Quads) -> Result<(), FrameStop>
-        ensures told { OnOk result (gather (events_step (context_of self.old.context) (events_of (tokens_of step)) self.old.cursor).0 quads.old self.old.stack ≡ Ok (quads.new, self.new.stack)) }
-        ensures cursor { OnOk result (self.new.cursor ≡ (events_step (context_of self.old.context) (events_of (tokens_of step)) self.old.cursor).1) }
-        ensures stops { IfErr result (λ stop. HasCause stop (gather (events_step (context_of self.old.context) (events_of (tokens_of step)) self.old.cursor).0 quads.old self.old.stack)) }
-        ensures kept { self.new ≡ record self.old { cursor = self.new.cursor; stack = self.new.stack } }
-    {
-        let Step { first, second } = step;
-        match self.tell_token(alloc, first, quads) {
-            Ok(()) => self.tell_token(alloc, second, quads),
-            Err(stop) => Err(stop),
-        }
-    }
-
-    /// Tells the facts of a token, if there is one.
-    #[tactic(auto, unfolding(crate::specs::Gathers::gather, crate::specs::Translation::events_step))]
-    fn tell_token(
+    fn say_last_by<O: QuadOut>(
         &mut self,
         alloc: Global,
         token: Option<Token>,
         quads: &mut Quads,
-    ) -> Result<(), FrameStop>
-        ensures told { OnOk result (gather (events_step (context_of self.old.context) (events_of (option_to_list token)) self.old.cursor).0 quads.old self.old.stack ≡ Ok (quads.new, self.new.stack)) }
+        out: &mut O,
+    ) -> Result<(), Stop>
+        requires { quads.old ≡ [] }
+        ensures says { OnOk result (Says (events_step (context_of self.old.context) (events_of (option_to_list token)) self.old.cursor).0 self.old.stack self.new.stack (O.tells out.old) (O.tells out.new) (O.selects out.old)) }
         ensures cursor { OnOk result (self.new.cursor ≡ (events_step (context_of self.old.context) (events_of (option_to_list token)) self.old.cursor).1) }
-        ensures stops { IfErr result (λ stop. HasCause stop (gather (events_step (context_of self.old.context) (events_of (option_to_list token)) self.old.cursor).0 quads.old self.old.stack)) }
+        ensures some { OnErr result (SaysSome (events_step (context_of self.old.context) (events_of (option_to_list token)) self.old.cursor).0 self.old.stack (O.tells out.old) (O.tells out.new) (O.selects out.old)) }
+        ensures stop { IfErr result (StopsSaying (events_step (context_of self.old.context) (events_of (option_to_list token)) self.old.cursor).0 self.old.stack) }
         ensures kept { self.new ≡ record self.old { cursor = self.new.cursor; stack = self.new.stack } }
+        ensures selects { (q : Parts) → O.selects out.new q ≡ O.selects out.old q }
+        ensures cause { causes.HasCause (O.faults out.old) (O.faults out.new) (IsErrOf result Stop.OutFault) }
+        ensures beside { O.beside out.old out.new }
     {
-        match token {
-            None => Ok(()),
-            Some(token) => {
-                let event = Event::of(token);
-                self.cursor
-                    .step(alloc, &self.context, event, &mut self.stack, quads)
-            }
+        match self.tell_token(alloc, token, quads) {
+            Err(last) => Err(Stop::of_facts(last)),
+            Ok(()) => put_all(quads, out),
         }
     }
 }
 
-/// Whether a byte completes no token.
-fn is_silent(step: &Step) -> bool
-    ensures { result ≡ true → tokens_of step.now ≡ [] }
+/// Whether a byte completes nothing.
+#[inline(always)]
+fn is_silent(signs: Signs) -> bool
+    ensures { result ≡ true → (at : ℕ) (reading : Reading) → told signs at reading ≡ [] }
 {
-    step.first.is_none() && step.second.is_none()
+    match signs.sign {
+        Sign::Nothing => !signs.number,
+        _ => false,
+    }
 }

@@ -1,5 +1,5 @@
 //! Events inside an object that isn't decided, and those that decide it.
-ghost use Rattle.std.specs.Prelude.{◌≡◌, ◌&&◌, [], ◌∷◌, ◌++◌, None, Ok, OnOk, IfOk, IfErr};
+ghost use Rattle.std.specs.Prelude.{◌≡◌, ◌&&◌, [], ◌∷◌, ◌++◌, None, Ok, OnOk, IfOk, IfErr, IfSome, IsSome, true, false};
 ghost use Rattle.jl_context.specs.Contexts.{context_of};
 ghost use Rattle.jl_frames.specs.Answers.{HasCause};
 ghost use Rattle.jl_frames.specs.Facts.{enters};
@@ -33,10 +33,10 @@ impl Cursor {
         ensures cursor { OnOk result (self.new ≡ (spec.event_step (context_of context.now) event self.old).1) }
         ensures stops { IfErr result (λ stop. HasCause stop (gather (spec.event_step (context_of context.now) event self.old).0 quads.old stack.old)) }
     {
-        match self.leading.take() {
-            None => self.decided(alloc, context, false, event, stack, quads),
-            Some(leading) => self.undecided(alloc, context, leading, event, stack, quads),
+        if self.leading.is_none() {
+            return self.decided(alloc, context, false, event, stack, quads);
         }
+        self.undecided(alloc, context, event, stack, quads)
     }
 
     /// An event inside an object that isn't decided.
@@ -45,30 +45,48 @@ impl Cursor {
         &mut self,
         alloc: Global,
         context: &Context,
-        mut leading: Leading,
         event: Event,
         stack: &mut Stack,
         quads: &mut Quads,
     ) -> Result<(), FrameStop>
-        requires { self.old.leading ≡ None }
-        ensures told { OnOk result (gather (spec.leading_step (context_of context.now) event leading self.old).0 quads.old stack.old ≡ Ok (quads.new, stack.new)) }
-        ensures cursor { OnOk result (self.new ≡ (spec.leading_step (context_of context.now) event leading self.old).1) }
-        ensures stops { IfErr result (λ stop. HasCause stop (gather (spec.leading_step (context_of context.now) event leading self.old).0 quads.old stack.old)) }
+        requires { IsSome self.old.leading }
+        ensures told { OnOk result (gather (spec.event_step (context_of context.now) event self.old).0 quads.old stack.old ≡ Ok (quads.new, stack.new)) }
+        ensures cursor { OnOk result (self.new ≡ (spec.event_step (context_of context.now) event self.old).1) }
+        ensures stops { IfErr result (λ stop. HasCause stop (gather (spec.event_step (context_of context.now) event self.old).0 quads.old stack.old)) }
     {
-        if leading.admit(alloc, context, &event)? {
-            self.hold(leading, event)?;
+        if self.admits(alloc, context, &event)? {
+            self.hold(event)?;
             return Ok(());
         }
-        self.decide_then(alloc, context, leading, event, stack, quads)
+        match self.leading.take() {
+            Some(leading) => self.decide_then(alloc, context, leading, event, stack, quads),
+            None => unreachable!(),
+        }
+    }
+
+    /// Whether the event is held, by the object that isn't decided.
+    #[tactic(auto, unfolding(crate::specs::Translation::event_step))]
+    fn admits(&mut self, alloc: Global, context: &Context, event: &Event) -> Result<bool, NoMemory>
+        requires { IsSome self.old.leading }
+        ensures undecided { IsSome self.new.leading }
+        ensures held { IfOk result (λ held. IfSome self.new.leading (λ leading. spec.event_step (context_of context.now) event.now self.old
+            ≡ elim held [ true ↦ spec.holds event.now leading self.new | false ↦ spec.decides_then (context_of context.now) event.now leading self.new ])) }
+    {
+        match &mut self.leading {
+            Some(leading) => leading.admit(alloc, context, event),
+            None => unreachable!(),
+        }
     }
 
     /// The event is held.
-    fn hold(&mut self, mut leading: Leading, event: Event) -> Result<(), NoMemory>
-        ensures { OnOk result (self.new ≡ (spec.holds event leading self.old).1) }
+    fn hold(&mut self, event: Event) -> Result<(), NoMemory>
+        requires { IsSome self.old.leading }
+        ensures { OnOk result (IfSome self.old.leading (λ leading. self.new ≡ (spec.holds event leading self.old).1)) }
     {
-        leading.held.push(event)?;
-        self.leading = Some(leading);
-        Ok(())
+        match &mut self.leading {
+            Some(leading) => leading.held.push(event),
+            None => unreachable!(),
+        }
     }
 
     /// The object is decided before the event.
