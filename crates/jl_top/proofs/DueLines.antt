@@ -1,5 +1,5 @@
 -- The lines of the quads that are due stand among those put.
-use Rattle.std.proofs.Common.{◌≡◌, ℕ, ◌⊎◌, inl, inr, List, [], ◌∷◌, ◌++◌, flat_map, refl, sym, ap, ◌∙◌, subst, append_assoc, append-nil, false, Option, Some}
+use Rattle.std.proofs.Common.{◌≡◌, ℕ, inl, inr, List, [], ◌∷◌, ◌++◌, flat_map, refl, sym, ap, ◌∙◌, subst, append_assoc, append-nil, false, Option, Some}
 use Rattle.std.specs.Option.{IfSome}
 use Rattle.std.specs.Prelude.{codes}
 use Rattle.jl_model.specs.Lines.{term_text, iri_text, graph_text, spaced, line}

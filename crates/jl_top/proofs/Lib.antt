@@ -8,3 +8,4 @@ pub mod Going
 pub mod Reporting
 pub mod Commands
 pub mod DueLines
+pub mod LineCounts

@@ -66,10 +66,15 @@ fn hand_on_some<B: ByteOut>(out: &mut B, block: &mut Block) -> Result<(), Failed
     }
 }
 
+/// How many line feeds stand in the bytes of a block. Many bytes are looked at at once.
 fn line_feeds(bytes: &[u8]) -> u64
+    requires { length bytes.now ≤ 65536 }
     ensures { result ≡ count_by is_line_feed bytes.now }
 {
-    bytes.iter().filter(|byte| **byte == b'\n').count() as u64
+    let feeds = bytes.iter().fold(0u32, |feeds, byte| {
+        feeds.wrapping_add(u32::from(*byte == b'\n'))
+    });
+    u64::from(feeds)
 }
 
 /// Hands on all that is held.

@@ -1,4 +1,4 @@
-use Rattle.std.proofs.Common.{◌≡◌, ◌≤◌, ◌+◌, ◌-◌, ◌^◌, List, ℕ, length, false}
+use Rattle.std.proofs.Common.{◌≡◌, ◌≤◌, ◌+◌, ◌-◌, ◌^◌, false}
 use Rattle.jl_top.specs.Pieces.{HasBegun}
 use Rattle.jl_top.specs.Promptness.{GrantsTo}
 use Rattle.jl_top.specs.Runs.{Going}
