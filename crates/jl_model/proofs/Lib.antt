@@ -10,3 +10,5 @@ pub mod LastByte
 pub mod Datatypes
 pub mod JsonLists
 pub mod SameStrings
+pub mod UsualBlocks
+pub mod UsualTexts

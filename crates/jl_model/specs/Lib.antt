@@ -1,6 +1,7 @@
 pub mod Causes
 pub mod Codes
 pub mod Iris
+pub mod UsualIris
 pub mod Labels
 pub mod Blanks
 pub mod Tags

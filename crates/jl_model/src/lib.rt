@@ -19,6 +19,7 @@ mod text_tests;
 mod texts;
 mod tokens;
 mod trees;
+mod usual_iris;
 
 pub use codes::Code;
 pub use expansions::Expanded;

@@ -1,8 +1,10 @@
-//! What no clause says: that calls succeed where memory is ample.
+//! What no clause says: that calls succeed where memory is ample, and that the compiled look-ups
+//! of many bytes at once answer as the clauses say.
 
 use super::quads::Quad;
 use super::scalars::Scalar;
 use super::terms::{Lit, Term};
+use super::text_tests::{has_iri_form, is_iri};
 use super::texts::{NoMemory, Text};
 use super::trees::{Items, Json, Member, Members, Node};
 use std::alloc::Global;
@@ -41,6 +43,43 @@ fn a_quad_is_made_and_copied(rt: HostRuntime) -> Result<(), Fail> {
     if let Some(quad) = &quad {
         let copy = quad.copy(rt.alloc())?;
         assert_eq!(rt; copy.predicate().bytes(), b"http://a/p".as_slice());
+    }
+    Ok(())
+}
+
+/// A text, whether it has the form of an IRI, and whether it is one.
+const IRIS: [(&[u8], bool, bool); 19] = [
+    // no whole block
+    (b"http:", true, true),
+    (b"https:a", true, true),
+    (b"http://a/~!#$%&", true, true),
+    (b"http:a b", false, false),
+    // the schemes that are searched for
+    (b"HTTP:a", true, true),
+    (b"urn:a:b", true, true),
+    (b"http", false, false),
+    (b"httpx//example.org/a", false, false),
+    // one block, and one byte more
+    (b"http://example.o", true, true),
+    (b"http://example.org", true, true),
+    (b"http://example.<", false, false),
+    (b"http://example.o|", false, false),
+    // a bad byte in the middle, at the last place of a block, and at the first of the next
+    (b"https://example.org/a/b\\c/d/e/f/g", false, false),
+    (b"https://example.org/a/b/c/d/e/f{/g", false, false),
+    (b"https://example.org/a/b/c/d/e/f/}g", false, false),
+    (b"https://example.org/a/b/c/d/e/f/g\x7f", true, true),
+    (b"https://example.org/a/b/c/d/e/f/g\x1f", false, false),
+    // a wide character, and a piece of one
+    (b"https://example.org/\xc3\xa9", true, true),
+    (b"https://example.org/\xc3", true, false),
+];
+
+#[test]
+fn iris_are_found_at_the_borders_of_blocks(rt: HostRuntime) -> Result<(), Fail> {
+    for (text, form, iri) in IRIS {
+        assert_eq!(rt; has_iri_form(text), form);
+        assert_eq!(rt; is_iri(text), iri);
     }
     Ok(())
 }

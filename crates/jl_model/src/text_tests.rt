@@ -7,6 +7,8 @@ ghost use Rattle.jl_model.specs.Iris.{IsIri};
 ghost use Rattle.jl_model.specs.Labels as labels;
 ghost use Rattle.jl_model.specs.Tags as tags;
 
+use super::usual_iris::is_usual_iri;
+
 /// Whether the byte may go on a scheme.
 pub fn is_scheme_byte(byte: u8) -> bool
     ensures { result ≡ iris.is_scheme_byte byte }
@@ -53,10 +55,7 @@ fn first_colon(text: &[u8]) -> Option<usize>
     text.iter().position(|byte| *byte == b':')
 }
 
-/// Whether the text has the form of an IRI: a scheme, a colon, and no byte that IRIs leave out.
-///
-/// It says nothing of UTF-8.
-pub fn has_iri_form(text: &[u8]) -> bool
+fn has_scheme_and_iri_bytes(text: &[u8]) -> bool
     ensures { result ≡ iris.has_iri_form text.now }
 {
     match first_colon(text) {
@@ -65,11 +64,27 @@ pub fn has_iri_form(text: &[u8]) -> bool
     }
 }
 
+/// Whether the text has the form of an IRI: a scheme, a colon, and no byte that IRIs leave out.
+///
+/// It says nothing of UTF-8.
+pub fn has_iri_form(text: &[u8]) -> bool
+    ensures { result ≡ iris.has_iri_form text.now }
+{
+    is_usual_iri(text) || has_scheme_and_iri_bytes(text)
+}
+
+#[inline(never)]
+fn is_iri_by_search(text: &[u8]) -> bool
+    ensures { IsTrue result ↔ IsIri text.now }
+{
+    has_scheme_and_iri_bytes(text) && std::str::from_utf8(text).is_ok()
+}
+
 /// Whether the text is an IRI: UTF-8, with a scheme, a colon, and no byte that IRIs leave out.
 pub fn is_iri(text: &[u8]) -> bool
     ensures { IsTrue result ↔ IsIri text.now }
 {
-    has_iri_form(text) && std::str::from_utf8(text).is_ok()
+    is_usual_iri(text) || is_iri_by_search(text)
 }
 
 fn is_word_byte(byte: u8) -> bool
