@@ -2,7 +2,7 @@
 use Rattle.std.proofs.Common.{inl, inr, ◌≡◌, ℕ, zero, suc, ◌+◌, ◌<◌, ◌≤◌, false, cond, leb, List, [], ◌∷◌, ◌++◌, length, take, drop, get_or, refl, sym, ap, ◌∙◌, subst, arith, add-zero, length-append, IsUtf8, ◌↔◌}
 use Rattle.std.proofs.lemmas.Bool.{cases_Bool, and_parts, leb-true, le-leb, false≢true}
 use Rattle.std.proofs.lemmas.List.Folds.{length-prefix_len}
-use Rattle.std.proofs.lemmas.List.Sums.{prefix_len-le-length, prefix_len_stops, prefix_len-drop_no, prefix_len-drop_all}
+use Rattle.std.proofs.lemmas.List.Sums.{prefix_len_stops, prefix_len-drop_no, prefix_len-drop_all}
 use Rattle.std.proofs.lemmas.Str.{IsUtf8-from_ascii, IsUtf8-from_is_utf8, is_utf8-from_IsUtf8}
 use Rattle.std.proofs.lemmas.Str.Ascii.{IsAscii-nil, IsAscii-cons}
 use Rattle.std.proofs.Math.Seq.{take-add}
@@ -49,9 +49,6 @@ behind_ascii front rest a = ap (λ n. valid_len_up_to (front ++ rest) n) (length
 -- how many of the first bytes are ASCII that means itself
 abbrev pub ascii_len : List ℕ → ℕ
 ascii_len = prefix_len is_ascii_text
-
-pub ascii_within : (bytes : List ℕ) → ascii_len bytes ≤ length bytes
-ascii_within bytes = prefix_len-le-length is_ascii_text bytes
 
 ascii_front : (bytes : List ℕ) → IsAscii (take (ascii_len bytes) bytes)
 ascii_front [] = IsAscii-nil

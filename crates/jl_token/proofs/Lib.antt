@@ -22,6 +22,7 @@ pub mod LexerCalls
 mod WholeChars
 mod PlainRuns
 mod AsciiFronts
+mod TextLanes
 pub mod OneTree
 pub mod OneReading
 pub mod MeantUtf8

@@ -1,11 +1,11 @@
 -- Wherever a text stands, but in a word, nothing need follow, or texts with different first tokens may.
-use Rattle.std.proofs.Common.{◌≡◌, ℕ, suc, ◌+◌, ◌-◌, ◌<◌, ◌≤◌, ◌⊎◌, inl, inr, Bool, true, List, [], ◌∷◌, ◌++◌, length, refl, sym, ◌∙◌, ap, subst, arith, length-append}
+use Rattle.std.proofs.Common.{◌≡◌, ℕ, suc, ◌+◌, ◌-◌, ◌≤◌, ◌⊎◌, inl, inr, Bool, true, List, [], ◌∷◌, ◌++◌, length, refl, sym, ap, arith, length-append}
 use Rattle.jl_model.specs.declared.scalars.Scalar.{Scalar}
 use Rattle.jl_model.specs.declared.scalars.Scalar.TheVariants as scalars
 use Rattle.jl_model.specs.declared.tokens.Token.{Token}
 use Rattle.jl_model.specs.declared.tokens.Token.TheVariants as tokens
 use Rattle.jl_model.specs.JsonTree.Tree.{scalar}
-use Rattle.jl_model.specs.JsonText.{Then, Sign, Blanks, Colon, EndArray, EndObject, KeyText, IsNew, IsScalar}
+use Rattle.jl_model.specs.JsonText.{Then, Blanks, Colon, EndArray, EndObject, IsNew, IsScalar}
 use Rattle.jl_model.specs.JsonStrings.{Quoted}
 use Rattle.jl_token.specs.declared.opens.Open.{Open}
 use Rattle.jl_token.specs.declared.opens.Open.TheVariants as opens
@@ -18,7 +18,7 @@ use Rattle.jl_token.specs.declared.numbers.InNumber.{InNumber}
 use Rattle.jl_token.specs.declared.words.InWord.{InWord}
 use Rattle.jl_token.specs.NumberMachine.{NumberEnd}
 use Rattle.jl_token.specs.StringMachine.{InFormed}
-use Rattle.jl_token.specs.Left.{Left, LeftAt, Formed, FormedAt, SomeValue, Rest, ValueRest, ColonRest, KeyRest, AtKey, AtInKey, FirstItemRest, FirstKeyRest, TextEnd, KeyEnd, NumeralEnd}
+use Rattle.jl_token.specs.Left.{Left, LeftAt, Formed, FormedAt, SomeValue, Rest, ValueRest, ColonRest, KeyRest, AtInKey, FirstItemRest, FirstKeyRest, TextEnd, NumeralEnd}
 use Rattle.jl_token.proofs.Languages.{no_blank, sign_on}
 use Rattle.jl_token.proofs.Rules.{ItemGoes, MemberGoes, more_items_in, more_members_in}
 use Rattle.jl_token.proofs.NumberMoves.{some_number, other_number}

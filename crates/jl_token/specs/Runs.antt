@@ -16,6 +16,10 @@ use Rattle.jl_token.specs.Lexed.{Stands, end_of_places}
 abbrev pub is_text : ℕ → Bool
 is_text c = not (eqb c 34) && (not (eqb c 92) && leb 32 c)
 
+-- the same, and no higher than this
+abbrev pub is_text_to : ℕ → ℕ → Bool
+is_text_to last c = is_text c && leb c last
+
 -- it is ASCII that means itself
 abbrev pub is_ascii_text : ℕ → Bool
 is_ascii_text c = is_text c && leb c 127

@@ -15,9 +15,9 @@ ghost use Rattle.jl_token.specs.TokenTexts.{HasUtf8};
 ghost use Rattle.jl_token.specs.Lexed.{Stands, IsFront, IsFormed, Takes, AreWhole, Stops, Ends, StopsEnd, IsNumberToken, HasOneText, tokens_of, told, open_len};
 
 use crate::readings::Reading;
+use crate::runs::plain_len;
 use crate::states::LexState;
 use crate::steps::{LexStop, Signs, Step};
-use crate::strings::plain_len;
 use jl_model::{Code, Fault, NoMemory, Token};
 use std::alloc::Global;
 use std::marker::Model;
@@ -182,6 +182,9 @@ impl Lexer {
         let room = END_OF_PLACES - self.state.reading.at;
         let within = (bytes.len() as u64).min(room) as usize;
         let count = plain_len(&bytes[..within]);
+        if count == 0 {
+            return Ok(0);
+        }
         match self.state.reading.run(&bytes[..count]) {
             Ok(()) => Ok(count),
             Err(NoMemory) => {

@@ -8,6 +8,7 @@ mod names;
 mod numbers;
 mod opens;
 mod readings;
+mod runs;
 mod states;
 mod steps;
 mod strings;

@@ -1,6 +1,5 @@
 //! Where a byte of a string stands (RFC 8259, section 7; RFC 3629, section 4).
-ghost use Rattle.std.specs.Prelude.{◌≡◌, ◌<◌, ◌≤◌, ◌++◌, length, [], ◌∷◌, OnOk, IfOk, IfSome, IsTrue, ◌↔◌, encode_utf8};
-ghost use Rattle.std.specs.List.{prefix_len};
+ghost use Rattle.std.specs.Prelude.{◌≡◌, ◌<◌, ◌++◌, [], ◌∷◌, OnOk, IfOk, IfSome, IsTrue, ◌↔◌, encode_utf8};
 ghost use Rattle.std.specs.Option.{option_map};
 ghost use Rattle.jl_model.specs.JsonStrings as strings;
 ghost use Rattle.jl_token.specs.StringMachine as machine;
@@ -336,72 +335,4 @@ fn is_low_formed(later: u8, value: u32) -> bool
         3 => value == 0,
         _ => false,
     }
-}
-
-/// Whether the byte is ASCII that means itself in a string.
-fn is_ascii_text(byte: u8) -> bool
-    ensures { result ≡ runs.is_ascii_text byte }
-{
-    byte != b'"' && byte != b'\\' && byte >= 32 && byte <= 127
-}
-
-/// How many of the first bytes are ASCII that means itself in a string.
-#[tactic(auto, using(crate::proofs::AsciiFronts::ascii_within))]
-fn ascii_len(bytes: &[u8]) -> usize
-    ensures count { result ≡ prefix_len runs.is_ascii_text bytes.now }
-    ensures bound { result ≤ length bytes.now }
-{
-    let mut count = 0;
-    for byte in bytes {
-        if !is_ascii_text(*byte) {
-            return count;
-        }
-        count += 1;
-    }
-    count
-}
-
-/// Whether the byte means itself in a string, as a character or as a part of one.
-fn is_text(byte: u8) -> bool
-    ensures { result ≡ runs.is_text byte }
-{
-    byte != b'"' && byte != b'\\' && byte >= 32
-}
-
-/// How many of the first bytes are no quote, no backslash and no control.
-fn text_len(bytes: &[u8]) -> usize
-    ensures { result ≡ prefix_len runs.is_text bytes.now }
-{
-    let mut count = 0;
-    for byte in bytes {
-        if !is_text(*byte) {
-            return count;
-        }
-        count += 1;
-    }
-    count
-}
-
-/// The same as `plain_len`, where characters beyond ASCII are looked for.
-fn wide_len(bytes: &[u8]) -> usize
-    ensures count { result ≡ runs.plain_len bytes.now }
-    ensures bound { result ≤ length bytes.now }
-{
-    let count = text_len(bytes);
-    match simdutf8::compat::from_utf8(&bytes[..count]) {
-        Ok(text) => text.len(),
-        Err(error) => error.valid_up_to(),
-    }
-}
-
-/// How many of the first bytes are whole characters that mean themselves in a string.
-pub(crate) fn plain_len(bytes: &[u8]) -> usize
-    ensures count { result ≡ runs.plain_len bytes.now }
-    ensures bound { result ≤ length bytes.now }
-{
-    let ascii = ascii_len(bytes);
-    if ascii == bytes.len() || bytes[ascii] < 128 {
-        return ascii;
-    }
-    ascii + wide_len(&bytes[ascii..])
 }

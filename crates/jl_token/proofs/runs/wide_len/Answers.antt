@@ -1,6 +1,6 @@
 use Rattle.std.proofs.Common.{◌∙◌, ap, length}
 use Rattle.jl_token.proofs.PlainRuns.{front_len}
-use Rattle.jl_token.proofs.strings.wide_len.Goals as goal
+use Rattle.jl_token.proofs.runs.wide_len.Goals as goal
 
 pub returns-in-Ok-clause-count : goal.returns-in-Ok-clause-count
 returns-in-Ok-clause-count c =

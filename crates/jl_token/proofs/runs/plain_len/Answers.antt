@@ -2,8 +2,8 @@ use Rattle.std.proofs.Common.{◌≡◌, ◌+◌, ◌∙◌, sym, ap, refl, arit
 use Rattle.std.proofs.lemmas.List.{take_rest}
 use Rattle.jl_token.specs.Runs.{plain_len}
 use Rattle.jl_token.proofs.AsciiFronts.{plain_behind, plain_all, plain_ascii}
-use Rattle.jl_token.proofs.strings.plain_len.Goals.{then-ascii-bytes-via-then-ascii-bytes, then-ascii-bytes-via-else-ascii-bytes+then-bytes-ascii-lt128}
-use Rattle.jl_token.proofs.strings.plain_len.Goals as goal
+use Rattle.jl_token.proofs.runs.plain_len.Goals.{then-ascii-bytes-via-then-ascii-bytes, then-ascii-bytes-via-else-ascii-bytes+then-bytes-ascii-lt128}
+use Rattle.jl_token.proofs.runs.plain_len.Goals as goal
 
 pub returns-then-ascii-bytes-clause-count : goal.returns-then-ascii-bytes-clause-count
 returns-then-ascii-bytes-clause-count c =
