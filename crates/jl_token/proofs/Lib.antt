@@ -23,6 +23,7 @@ mod WholeChars
 mod PlainRuns
 mod AsciiFronts
 mod TextLanes
+mod LastOpens
 pub mod OneTree
 pub mod OneReading
 pub mod MeantUtf8

@@ -1,8 +1,10 @@
 -- The open containers, the innermost first.
-use Rattle.std.specs.Prelude.{ℕ, List, ◌∷◌}
+use Rattle.std.specs.Prelude.{◌≡◌, ℕ, Bool, not, List, ◌∷◌}
+use Rattle.std.specs.List.{list_any}
+use Rattle.std.specs.Str.{bytes_eq}
 use Rattle.jl_token.specs.declared.opens.Open.{Open}
 use Rattle.jl_token.specs.declared.opens.Open.TheVariants as opens
-use Rattle.jl_token.specs.Names.{names_len}
+use Rattle.jl_token.specs.Names.{with_name, names_len}
 
 -- the innermost one is an array, or an object
 abbrev pub IsInArray : List Open → Type 0
@@ -12,6 +14,11 @@ IsInArray _ = ⊥
 abbrev pub IsInObject : List Open → Type 0
 IsInObject (opens.Object had ∷ below) = Unit {0}
 IsInObject _ = ⊥
+
+-- the innermost one is an object, and has this name from then on; this says whether it was new
+abbrev pub AddsName : List Open → List Open → List ℕ → Bool → Type 0
+AddsName (opens.Object had ∷ below) new name added = (added ≡ not (list_any (bytes_eq name) had)) × (new ≡ opens.Object (with_name had name) ∷ below)
+AddsName _ new name added = ⊥
 
 -- how many bytes its names have in all
 abbrev pub open_names_len : Open → ℕ

@@ -9,6 +9,7 @@ ghost use Rattle.jl_token.specs.StringMachine as string;
 ghost use Rattle.jl_token.specs.Left.{FormedAt};
 ghost use Rattle.jl_token.specs.Lexed.{HasNoText, HasOneText};
 ghost use Rattle.jl_token.specs.Moves.{MovesBy, Moves, stop_of};
+ghost use Rattle.jl_token.specs.OpenLists.{IsInObject};
 
 use crate::kinds::{Kind, kind_of};
 use crate::names::Names;
@@ -359,28 +360,23 @@ impl Reading {
 
     /// A name ends at the byte.
     fn end_key(&mut self, alloc: Global) -> Result<Sign, Halt>
-        requires { self.old.at < 2 ^ 63 }
+        requires room { self.old.at < 2 ^ 63 }
+        requires object { IsInObject self.old.within }
         ensures { MovesBy result self.old self.new (machine.key_ends true self.old self.old.within) }
     {
-        match self.within.pop() {
-            Some(Open::Object(mut names)) => {
-                let Ok(name) = Vec::from_slice(alloc, self.part.bytes()) else {
-                    return Err(Halt::NoMemory);
-                };
-                if !names.add(name)? {
-                    return Err(Halt::AtToken(Code::DuplicateKey));
-                }
-                self.within.push(Open::Object(names))?;
-                self.go_on(Spot::Colon);
-                Ok(Sign::Key)
-            }
-            Some(Open::Array) => Err(Halt::AtToken(Code::Syntax)),
-            None => Err(Halt::AtToken(Code::Syntax)),
+        let Ok(name) = Vec::from_slice(alloc, self.part.bytes()) else {
+            return Err(Halt::NoMemory);
+        };
+        if !self.within.add_name(name)? {
+            return Err(Halt::AtToken(Code::DuplicateKey));
         }
+        self.go_on(Spot::Colon);
+        Ok(Sign::Key)
     }
 
     fn in_key(&mut self, alloc: Global, place: InString, byte: u8) -> Result<Sign, Halt>
         requires room { self.old.at < 2 ^ 63 }
+        requires object { IsInObject self.old.within }
         requires formed { string.InFormed place }
         ensures { MovesBy result self.old self.new (machine.in_key true place self.old byte) }
     {

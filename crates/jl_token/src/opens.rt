@@ -1,6 +1,6 @@
 //! The containers that are open round the next byte.
-ghost use Rattle.std.specs.Prelude.{◌≡◌, ◌≤◌, ◌-◌, ◌^◌, ◌↔◌, IsTrue, min, sum_by, [], ◌∷◌, List, OnOk, OnErr, MatchOption, length, nat_eq};
-ghost use Rattle.jl_token.specs.OpenLists.{open_names_len, IsInArray, IsInObject};
+ghost use Rattle.std.specs.Prelude.{◌≡◌, ◌≤◌, ◌-◌, ◌^◌, ◌↔◌, IsTrue, min, sum_by, [], ◌∷◌, List, IfOk, OnOk, OnErr, MatchOption, length, nat_eq, reverse};
+ghost use Rattle.jl_token.specs.OpenLists.{open_names_len, IsInArray, IsInObject, AddsName};
 
 use crate::names::Names;
 use jl_model::NoMemory;
@@ -71,6 +71,15 @@ impl Opens {
         self.list.pop()
     }
 
+    /// Adds a name to those of the innermost object, unless it is among them, and says whether it was
+    /// new.
+    pub(crate) fn add_name(&mut self, name: Vec<u8>) -> Result<bool, NoMemory>
+        requires { IsInObject self.old }
+        ensures { IfOk result (λ added. AddsName self.old self.new name.items added) }
+    {
+        add_to_last(&mut self.list, name)
+    }
+
     /// The innermost one, lent.
     pub fn innermost(&self) -> Option<&Open>
         ensures { MatchOption result (self.now ≡ []) (λ container. (below : List Open) × (self.now ≡ container.now ∷ below)) }
@@ -110,6 +119,17 @@ impl Opens {
 }
 
 impl Open {
+    /// Adds a name to those of an object, unless it is among them, and says whether it was new.
+    fn add_name(&mut self, name: Vec<u8>) -> Result<bool, NoMemory>
+        requires { IsInObject (self.old ∷ []) }
+        ensures { IfOk result (λ added. AddsName (self.old ∷ []) (self.new ∷ []) name.items added) }
+    {
+        match self {
+            Open::Array => unreachable!(),
+            Open::Object(names) => names.add(name),
+        }
+    }
+
     /// How many bytes its names have in all, or 2^64 - 1 where they have more.
     fn names_len(&self) -> u64
         ensures { result ≡ min (open_names_len self.now) (2 ^ 64 - 1) }
@@ -118,6 +138,18 @@ impl Open {
             Open::Array => 0,
             Open::Object(names) => names.len(),
         }
+    }
+}
+
+/// What `Opens::add_name` does, where the innermost container comes last.
+#[tactic(auto, using(crate::proofs::LastOpens::adds_last))]
+fn add_to_last(list: &mut Vec<Open>, name: Vec<u8>) -> Result<bool, NoMemory>
+    requires { IsInObject (reverse list.old.items) }
+    ensures { IfOk result (λ added. AddsName (reverse list.old.items) (reverse list.new.items) name.items added) }
+{
+    match list.last_mut() {
+        Some(container) => container.add_name(name),
+        None => unreachable!(),
     }
 }
 
