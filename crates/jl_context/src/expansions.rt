@@ -1,5 +1,5 @@
 //! IRI expansion (JSON-LD 1.1 API, section 5.2.2), without a local context.
-ghost use Rattle.std.specs.Prelude.{◌≡◌, IfOk};
+ghost use Rattle.std.specs.Prelude.{◌≡◌, IfOk, IsTrue, true};
 ghost use Rattle.jl_defs.specs.Texts as texts;
 ghost use Rattle.jl_defs.specs.IriExpansion as spec;
 ghost use Rattle.jl_context.specs.Contexts.{context_of};
@@ -90,8 +90,27 @@ fn move_by_base(
 }
 
 /// Whether a text with a colon is an answer as it stands: a blank node, an IRI with an authority,
-/// or another IRI. No context has prefixes.
+/// or another IRI. No context has prefixes. Most such texts show it by their first bytes.
 fn is_whole(text: &[u8]) -> bool
+    ensures { result ≡ whole text.now (spec.compact text.now) }
+{
+    begins_as_usual(text) || is_whole_behind_colon(text)
+}
+
+/// Whether the text begins with `http://` or `https://`.
+fn begins_as_usual(text: &[u8]) -> bool
+    ensures { IsTrue result → whole text.now (spec.compact text.now) ≡ true }
+{
+    matches!(
+        text,
+        [b'h', b't', b't', b'p', b':', b'/', b'/', ..]
+            | [b'h', b't', b't', b'p', b's', b':', b'/', b'/', ..]
+    )
+}
+
+/// The same as `is_whole`, where the colon is searched for.
+#[inline(never)]
+fn is_whole_behind_colon(text: &[u8]) -> bool
     ensures { result ≡ whole text.now (spec.compact text.now) }
 {
     match compact_of(text) {
