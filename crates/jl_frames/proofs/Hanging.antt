@@ -10,12 +10,12 @@ use Rattle.jl_model.specs.declared.graph_scopes.GraphScope.{GraphScope}
 use Rattle.jl_model.specs.declared.graph_scopes.GraphScope.TheVariants.{LeftOut, Main, Named}
 use Rattle.jl_defs.specs.Texts.{Text, is_iri}
 use Rattle.jl_defs.specs.Dataset.{Head, link, is_subject, quad_in, term_of_literal}
-use Rattle.jl_frames.specs.declared.hooks.Hook.{Hook}
 use Rattle.jl_frames.specs.declared.nodes.Node.{Node}
 use Rattle.jl_frames.specs.Formed.{is_node, is_language, is_lit, is_object, is_graph, is_formed, formed}
 use Rattle.jl_frames.specs.declared.nodes.Pending.{Pending}
 use Rattle.jl_frames.specs.declared.nodes.Pending.TheVariants as pending
-use Rattle.jl_frames.specs.Nodes.{hang, hang_under, hang_pending, hooked}
+use Rattle.jl_frames.specs.Machine.{hang_on, subject_of}
+use Rattle.jl_frames.specs.Nodes.{hang, hang_under, hang_pending, quad_with}
 
 abbrev pub head_in : Option Term → Text → GraphScope → Head
 head_in s p scope = record { subject = s; predicate = p; scope = scope; forward = true }
@@ -32,14 +32,6 @@ no-object : (s : Option Term) (p : Text) (scope : GraphScope) → formed (link (
 unfolding link
 no-object None p scope = nothing-linked (is_iri p)
 no-object (Some s) p scope = nothing-linked (is_iri p)
-
-pub hooked_nobody : (n : Node) (p : Text) (o : Option Term) → n.subject ≡ None → hooked None o ≡ hang n p o
-unfolding hang
-hooked_nobody n p o e = sym (ap (λ s. formed (link (head_in s p n.scope) o)) e ∙ no-subject p n.scope o)
-
-pub hooked_node : (n : Node) (p : Text) (o : Option Term) (s : Term) → n.subject ≡ Some s → formed (link (head_in (Some s) p n.scope) o) ≡ hang n p o
-unfolding hang
-hooked_node n p o s e = sym (ap (λ x. formed (link (head_in x p n.scope) o)) e)
 
 -- a quad with a predicate and a subject that may be none
 abbrev linked_by : Bool → Bool → List Parts → List Parts
@@ -74,11 +66,47 @@ left-out false s = refl
 abbrev pub scoped : GraphScope → Term → Text → Term → List Parts
 scoped scope s p o = formed (quad_in scope s p o)
 
-pub hooked_scope : (s : Term) (p : Text) (scope : GraphScope) (o : Term) → formed (link (head_in (Some s) p scope) (Some o)) ≡ scoped scope s p o
+linked_in : (s : Term) (p : Text) (scope : GraphScope) (o : Term) → formed (link (head_in (Some s) p scope) (Some o)) ≡ scoped scope s p o
 unfolding link
-hooked_scope s p LeftOut o = left-out (is_iri p) (is_subject s)
-hooked_scope s p Main o = whole s p o None
-hooked_scope s p (Named g) o = whole s p o (Some g)
+linked_in s p LeftOut o = left-out (is_iri p) (is_subject s)
+linked_in s p Main o = whole s p o None
+linked_in s p (Named g) o = whole s p o (Some g)
+
+-- a node whose name isn't well-formed says nothing
+pub hang_nobody : (n : Node) (p : Text) (o : Option Term) → n.subject ≡ None → [] ≡ hang n p o
+unfolding hang
+hang_nobody n p o e = sym (ap (λ s. formed (link (head_in s p n.scope) o)) e ∙ no-subject p n.scope o)
+
+nothing-in : (s : Option Term) (p : Text) (o : Option Term) → formed (link (head_in s p LeftOut) o) ≡ []
+nothing-in None p o = no-subject p LeftOut o
+nothing-in (Some s) p None = no-object (Some s) p LeftOut
+nothing-in (Some s) p (Some o) = linked_in s p LeftOut o
+
+-- nor does one in a graph whose name isn't well-formed
+pub hang_left_out : (n : Node) (p : Text) (o : Option Term) → n.scope ≡ LeftOut → [] ≡ hang n p o
+unfolding hang
+hang_left_out n p o e = sym (ap (λ g. formed (link (head_in n.subject p g) o)) e ∙ nothing-in n.subject p o)
+
+-- what a node says, with its name and its graph at hand
+hang-in : (n : Node) (p : Text) (o : Option Term) (s : Term) (g : GraphScope) → n.subject ≡ Some s → n.scope ≡ g → formed (link (head_in (Some s) p g) o) ≡ hang n p o
+unfolding hang
+hang-in n p o s g e f = sym (ap (λ x. formed (link (head_in x p n.scope) o)) e ∙ ap (λ x. formed (link (head_in (Some s) p x) o)) f)
+
+main-quad : (s : Term) (p : Text) (o : Option Term) → quad_with s p o None ≡ formed (link (head_in (Some s) p Main) o)
+main-quad s p None = sym (no-object (Some s) p Main)
+main-quad s p (Some o) = sym (linked_in s p Main o)
+
+named-quad : (s : Term) (p : Text) (o : Option Term) (g : Term) → quad_with s p o (Some g) ≡ formed (link (head_in (Some s) p (Named g)) o)
+named-quad s p None g = sym (no-object (Some s) p (Named g))
+named-quad s p (Some o) g = sym (linked_in s p (Named g) o)
+
+-- in the default graph a node says the quad of its name
+pub hang_main : (n : Node) (p : Text) (o : Option Term) (s : Term) → n.subject ≡ Some s → n.scope ≡ Main → quad_with s p o None ≡ hang n p o
+hang_main n p o s e f = main-quad s p o ∙ hang-in n p o s Main e f
+
+-- and in a named graph the quad of its name there
+pub hang_named : (n : Node) (p : Text) (o : Option Term) (s g : Term) → n.subject ≡ Some s → n.scope ≡ Named g → quad_with s p o (Some g) ≡ hang n p o
+hang_named n p o s g e f = named-quad s p o g ∙ hang-in n p o s (Named g) e f
 
 -- a literal that isn't well-formed is left out either way
 not-lit : (u d l : Bool) → (d && u) ≡ false → (u && (d && l)) ≡ false
@@ -103,7 +131,7 @@ literal-linked None p scope lit = no-subject p scope (Some (Literal lit)) ∙ sy
 literal-linked (Some s) p scope lit = elim (cases_Bool (is_iri lit.datatype && is_utf8 lit.text)) [
   | inl e ↦ ap (λ b. formed (link (head_in (Some s) p scope) (elim b [ true ↦ Some (Literal lit) | false ↦ None ]))) (sym e)
   | inr e ↦
-      hooked_scope s p scope (Literal lit) ∙ literal-out s p scope lit e
+      linked_in s p scope (Literal lit) ∙ literal-out s p scope lit e
       ∙ sym (ap (λ b. formed (link (head_in (Some s) p scope) (elim b [ true ↦ Some (Literal lit) | false ↦ None ]))) e ∙ no-object (Some s) p scope)
 ]
 
@@ -127,10 +155,10 @@ under-literal w n lit = refl
 pub pending_literal : (n : Node) (lit : Lit) → hang_pending n (Some (Literal lit)) ≡ hang_pending n (term_of_literal lit)
 pending_literal n lit = under-literal n.pending n lit
 
-pub hooked_none : (h : Option Hook) → [] ≡ hooked h None
-hooked_none None = refl
-hooked_none (Some h) = sym (no-object (Some h.subject) h.predicate h.scope)
+hang-on-none : (outer : Option Node) → [] ≡ hang_on outer None
+hang-on-none None = refl
+hang-on-none (Some n) = under-none n.pending n
 
-pub hooked_literal : (h : Option Hook) (lit : Lit) → hooked h (Some (Literal lit)) ≡ hooked h (term_of_literal lit)
-hooked_literal None lit = refl
-hooked_literal (Some h) lit = literal-linked (Some h.subject) h.predicate h.scope lit
+-- where no object is open, nothing hangs on the one round it
+pub hang_on_none : (outer inner : Option Node) → inner ≡ None → [] ≡ hang_on outer (subject_of inner)
+hang_on_none outer inner e = subst (λ x. [] ≡ hang_on outer (subject_of x)) (sym e) (hang-on-none outer)

@@ -9,10 +9,12 @@ use Rattle.jl_model.specs.declared.terms.Term.{Term}
 use Rattle.jl_model.specs.declared.terms.Term.TheVariants.{Iri, Blank, Literal}
 use Rattle.jl_defs.specs.Texts.{Text, is_iri}
 
+-- what there is, as a list: nothing, or one
 abbrev pub listed : {A : Type 0} → Option A → List A
 listed None = []
 listed (Some x) = x ∷ []
 
+-- the same, where there may be no place for it
 abbrev pub all_listed : {A : Type 0} → Option (Option A) → List A
 all_listed None = []
 all_listed (Some o) = listed o

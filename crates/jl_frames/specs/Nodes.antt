@@ -1,7 +1,7 @@
 -- An open object: what its keys mean, and what the scalars that it takes bring. No context is known here: the texts
 -- have been expanded.
-use Rattle.std.specs.Prelude.{ℕ, Bool, true, false, List, [], Option, Some, None, Result, Ok, Err}
-use Rattle.jl_model.specs.Parts.{Parts}
+use Rattle.std.specs.Prelude.{ℕ, Bool, true, false, List, [], ◌∷◌, Option, Some, None, Result, Ok, Err}
+use Rattle.jl_model.specs.Parts.{Parts, parts_of}
 use Rattle.jl_model.specs.declared.scalars.Scalar.{Scalar}
 use Rattle.jl_model.specs.declared.scalars.Scalar.TheVariants.{Str}
 use Rattle.jl_model.specs.declared.codes.Code.{Code}
@@ -26,7 +26,6 @@ use Rattle.jl_frames.specs.declared.facts.ValueFact.{ValueFact}
 use Rattle.jl_frames.specs.declared.facts.Given.{Given}
 use Rattle.jl_frames.specs.declared.facts.Given.TheVariants as given
 use Rattle.jl_frames.specs.declared.entries.Entries.{Entries}
-use Rattle.jl_frames.specs.declared.hooks.Hook.{Hook}
 use Rattle.jl_frames.specs.declared.keywords.Keyword.{Keyword}
 use Rattle.jl_frames.specs.declared.keywords.Keyword.TheVariants as keyword
 use Rattle.jl_frames.specs.declared.keywords.Meaning.{Meaning}
@@ -71,10 +70,10 @@ head_of n predicate = record { subject = n.subject; predicate = predicate; scope
 unfoldable pub hang : Node → Text → Option Term → List Parts
 hang n predicate o = formed (link (head_of n predicate) o)
 
--- the quad of a hook
-abbrev pub hooked : Option Hook → Option Term → List Parts
-hooked None o = []
-hooked (Some h) o = formed (link (record { subject = Some h.subject; predicate = h.predicate; scope = h.scope; forward = true }) o)
+-- the quad of these parts, where there is an object and each part is well-formed
+abbrev pub quad_with : Term → Text → Option Term → Option Term → List Parts
+quad_with s p None g = []
+quad_with s p (Some o) g = formed (parts_of s p o g ∷ [])
 
 -- what a key means for the object itself
 abbrev pub meaning_of : Key → Meaning

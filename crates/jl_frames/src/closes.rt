@@ -1,19 +1,16 @@
 //! Containers that close.
-ghost use Rattle.std.specs.Prelude.{◌≡◌, ◌∷◌, true, Ok, None, Some, IfOk, IfErr, OnErr, Option, List};
+ghost use Rattle.std.specs.Prelude.{◌≡◌, ◌∷◌, true, Ok, None, IfOk, IfErr, OnErr, Option, List};
 ghost use Rattle.jl_frames.specs.Answers.{HasCause};
 ghost use Rattle.jl_frames.specs.Closing.{term_of_lit};
 ghost use Rattle.jl_frames.specs.Machine as spec;
 ghost use Rattle.jl_frames.specs.declared.nodes.Node.{Node as SpecNode};
 ghost use Rattle.jl_frames.specs.declared.opens.Open.{Open as SpecOpen};
-ghost use Rattle.jl_model.specs.declared.terms.Term.{Term as SpecTerm};
-ghost use Rattle.jl_frames.specs.Nodes.{hooked};
 
 use super::emits::Emits;
-use super::hooks::Hook;
 use super::opens::Open;
 use super::states::{FrameStop, StackState};
 use super::values::Ended;
-use jl_model::{Lit, NoMemory, Term};
+use jl_model::{Lit, NoMemory};
 use std::alloc::Global;
 
 impl StackState {
@@ -62,28 +59,20 @@ impl StackState {
     }
 
     /// The object closes, and the one round it is the innermost again.
-    fn leave(&mut self) -> Option<Term>
+    fn leave(&mut self)
         requires live { self.old.stopped ≡ None }
-        ensures state { (o : Option SpecNode) (k : List SpecOpen) → self.old.opens ≡ Open.Object o ∷ k → self.new ≡ spec.complete o k }
-        ensures subject { result ≡ spec.subject_of self.old.node }
+        ensures { (o : Option SpecNode) (k : List SpecOpen) → self.old.opens ≡ Open.Object o ∷ k → self.new ≡ spec.complete o k }
     {
-        let closed = self.pop_object();
+        self.pop_object();
         self.complete();
-        closed
     }
 
-    fn pop_object(&mut self) -> Option<Term>
+    fn pop_object(&mut self)
         ensures state { (o : Option SpecNode) (k : List SpecOpen) → self.old.opens ≡ Open.Object o ∷ k → self.new ≡ record self.old { node = o; opens = k } }
         ensures live { self.new.stopped ≡ self.old.stopped }
-        ensures subject { result ≡ spec.subject_of self.old.node }
     {
-        let closed = self.node.take();
         if let Some(open) = self.opens.pop() {
             self.node = open.into_node();
-        }
-        match closed {
-            None => None,
-            Some(node) => node.into_subject(),
         }
     }
 
@@ -94,65 +83,55 @@ impl StackState {
         ensures err { IfErr result (λ stop. stop ≡ FrameStop.NoMemory) }
         ensures kept { OnErr result (self.new ≡ self.old) }
     {
-        let hook = self.outer_hook(alloc)?;
-        let subject = self.leave_kept();
-        Ok(hang_all(hook, subject))
+        let emits = self.hang_node(alloc)?;
+        self.leave_kept();
+        Ok(emits)
+    }
+
+    /// The quad that links the innermost object to the one round it. Its name moves into the quad,
+    /// unless memory is wanting.
+    #[inline(always)]
+    #[tactic(auto, using(crate::proofs::Hanging::hang_on_none))]
+    fn hang_node(&mut self, alloc: Global) -> Result<Emits, NoMemory>
+        ensures ok { IfOk result (λ quads. quads ≡ spec.hang_on (spec.outer_of self.old.opens) (spec.subject_of self.old.node)) }
+        ensures others { (self.new.opens ≡ self.old.opens) × (self.new.stopped ≡ self.old.stopped) }
+        ensures kept { OnErr result (self.new ≡ self.old) }
+    {
+        match &mut self.node {
+            None => Ok(Emits::none()),
+            Some(node) => node.hang_on(alloc, self.opens.outer()),
+        }
     }
 
     /// A literal is an item of the property round its object.
+    #[inline(never)]
     fn close_value(&mut self, alloc: Global, lit: Option<Lit>) -> Result<Emits, FrameStop>
         requires live { self.old.stopped ≡ None }
         ensures ok { IfOk result (λ quads. (o : Option SpecNode) (k : List SpecOpen) → self.old.opens ≡ Open.Object o ∷ k → (quads ≡ spec.hang_on o (term_of_lit lit)) × (self.new ≡ spec.complete (spec.all_holding o) k)) }
         ensures err { IfErr result (λ stop. stop ≡ FrameStop.NoMemory) }
         ensures kept { OnErr result (self.new ≡ self.old) }
     {
-        let hook = self.outer_hook(alloc)?;
+        let emits = self.hang_literal(alloc, lit)?;
         self.leave_kept();
-        Ok(hang_literal(hook, lit))
+        Ok(emits)
     }
 
-    /// Where the values hang of the property round the innermost object.
-    fn outer_hook(&self, alloc: Global) -> Result<Option<Hook>, NoMemory>
-        ensures { IfOk result (λ hook. (t : Option SpecTerm) → hooked hook t ≡ spec.hang_on (spec.outer_of self.now.opens) t) }
+    fn hang_literal(&self, alloc: Global, lit: Option<Lit>) -> Result<Emits, NoMemory>
+        ensures { IfOk result (λ quads. quads ≡ spec.hang_on (spec.outer_of self.now.opens) (term_of_lit lit)) }
     {
         match self.opens.outer() {
-            None => Ok(None),
-            Some(node) => node.node().hook(alloc),
+            None => Ok(Emits::none()),
+            Some(outer) => outer.node().hang_literal(alloc, lit),
         }
     }
 
     /// The object closes, and has given something to the property round it.
-    fn leave_kept(&mut self) -> Option<Term>
+    fn leave_kept(&mut self)
         requires live { self.old.stopped ≡ None }
-        ensures state { (o : Option SpecNode) (k : List SpecOpen) → self.old.opens ≡ Open.Object o ∷ k → self.new ≡ spec.complete (spec.all_holding o) k }
-        ensures subject { result ≡ spec.subject_of self.old.node }
+        ensures { (o : Option SpecNode) (k : List SpecOpen) → self.old.opens ≡ Open.Object o ∷ k → self.new ≡ spec.complete (spec.all_holding o) k }
     {
-        let closed = self.pop_object();
+        self.pop_object();
         self.hold();
         self.complete();
-        closed
-    }
-}
-
-#[tactic(auto, using(crate::proofs::Hanging::hooked_none))]
-fn hang_all(hook: Option<Hook>, object: Option<Term>) -> Emits
-    ensures { result ≡ hooked hook object }
-{
-    match hook {
-        None => Emits::none(),
-        Some(hook) => match object {
-            None => Emits::none(),
-            Some(object) => hook.quad(object),
-        },
-    }
-}
-
-#[tactic(auto, using(crate::proofs::Hanging::hooked_literal))]
-fn hang_literal(hook: Option<Hook>, lit: Option<Lit>) -> Emits
-    ensures { result ≡ hooked hook (term_of_lit lit) }
-{
-    match lit {
-        None => hang_all(hook, None),
-        Some(lit) => hang_all(hook, Some(Term::Literal(lit))),
     }
 }

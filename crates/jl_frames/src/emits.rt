@@ -34,7 +34,7 @@ impl Emits {
 
     /// The quad in the room, if there is one.
     #[inline(always)]
-    pub fn of_room(room: Room) -> Emits
+    pub(crate) fn of_room(room: Room) -> Emits
         ensures { result ≡ listed room }
     {
         Emits { room: Some(room) }

@@ -25,16 +25,17 @@ impl StackState {
         if self.opens.is_in_dropped() {
             return self.open_dropped();
         }
-        let Some(node) = &self.node else {
-            return self.on_frame(frame);
-        };
-        match node.node().pending {
-            Pending::Property(_) => self.on_frame(frame),
-            Pending::Keyword { at, keyword } => self.on_types(at, keyword, frame.role),
-            Pending::Nothing | Pending::Ignored => self.open_dropped(),
+        if let Some(node) = &self.node {
+            match node.node().pending {
+                Pending::Property(_) => {}
+                Pending::Keyword { at, keyword } => return self.on_types(at, keyword, frame.role),
+                Pending::Nothing | Pending::Ignored => return self.open_dropped(),
+            }
         }
+        self.on_frame(frame)
     }
 
+    #[inline(always)]
     fn on_frame(&mut self, frame: Frame) -> Result<Emits, FrameStop>
         requires live { self.old.stopped ≡ None }
         ensures ok { IfOk result (λ quads. spec.on_frame frame.role frame self.old.node self.old.opens ≡ Ok (quads, self.new)) }
@@ -48,6 +49,7 @@ impl StackState {
         }
     }
 
+    #[inline(never)]
     fn open_dropped(&mut self) -> Result<Emits, FrameStop>
         requires live { self.old.stopped ≡ None }
         ensures ok { IfOk result (λ quads. spec.quiet self.old.node (Open.Dropped ∷ self.old.opens) ≡ Ok (quads, self.new)) }
@@ -97,6 +99,7 @@ impl StackState {
     }
 
     /// A container opens under a keyword: only an array of types may.
+    #[inline(never)]
     fn on_types(&mut self, at: u64, keyword: Keyword, role: Role) -> Result<Emits, FrameStop>
         requires live { self.old.stopped ≡ None }
         ensures ok { IfOk result (λ quads. (n : SpecNode) → self.old.node ≡ Some n → spec.on_types (spec.opens_types keyword role (spec.in_object self.old.opens)) at keyword n self.old.opens ≡ Ok (quads, self.new)) }

@@ -7,7 +7,7 @@ mod endings;
 mod enters;
 mod entries;
 mod facts;
-mod hooks;
+mod hangs;
 mod keywords;
 mod laws;
 mod nodes;

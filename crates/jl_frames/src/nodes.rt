@@ -4,6 +4,7 @@ ghost use Rattle.jl_defs.specs.Dataset.{term_of_value};
 ghost use Rattle.jl_defs.specs.MemberFaults.{is_direction_text};
 ghost use Rattle.jl_defs.specs.NodeMap.{rdf_type, term_of_text};
 ghost use Rattle.jl_frames.specs.Answers.{HasCause};
+ghost use Rattle.jl_frames.specs.Closing.{term_of_lit};
 ghost use Rattle.jl_frames.specs.declared.nodes.Node.{Node as SpecNode};
 ghost use Rattle.jl_frames.specs.Nodes as spec;
 ghost use Rattle.jl_model.specs.declared.terms.Term.{Term};
@@ -12,12 +13,11 @@ ghost use Rattle.std.specs.Prelude.{Option};
 use super::emits::Emits;
 use super::entries::Entries;
 use super::facts::{Frame, Given, KeyFact, ValueFact};
-use super::hooks::Hook;
 use super::keywords::{Keyword, Meaning};
 use super::states::FrameStop;
 use super::terms::{rdf_type, term_of_text};
 use super::values::{Kinds, RawValue, ValueParts};
-use jl_model::{Code, Expanded, Fault, GraphScope, NoMemory, Scalar, Term, Text};
+use jl_model::{Code, Expanded, Fault, GraphScope, Lit, NoMemory, Scalar, Term, Text};
 use jl_value::Valued;
 use std::alloc::Global;
 
@@ -136,33 +136,23 @@ impl Node {
         ensures { IfOk result (λ quads. quads ≡ spec.hang_pending self.now (term_of_value (spec.as_value valued))) }
     {
         match valued {
-            Valued::Reference(name) => match term_of_text(alloc, name)? {
-                Some(term) => self.hang(alloc, term),
-                None => Ok(Emits::none()),
-            },
+            Valued::Reference(name) => {
+                let mut object = term_of_text(alloc, name)?;
+                self.hang_from(alloc, &mut object)
+            }
             Valued::Literal(lit) => self.hang(alloc, Term::Literal(lit)),
             Valued::LeftOut => Ok(Emits::none()),
         }
     }
 
-    /// The quad with this object, of the property whose value is open.
-    pub fn hang(&self, alloc: Global, object: Term) -> Result<Emits, NoMemory>
-        ensures { IfOk result (λ quads. quads ≡ spec.hang_pending self.now (Some object)) }
+    /// The quad with this literal, of the property whose value is open.
+    #[tactic(auto, using(crate::proofs::Hanging::pending_none, crate::proofs::Hanging::pending_literal))]
+    pub(crate) fn hang_literal(&self, alloc: Global, lit: Option<Lit>) -> Result<Emits, NoMemory>
+        ensures { IfOk result (λ quads. quads ≡ spec.hang_pending self.now (term_of_lit lit)) }
     {
-        match self.hook(alloc)? {
-            Some(hook) => Ok(hook.quad(object)),
+        match lit {
             None => Ok(Emits::none()),
-        }
-    }
-
-    /// Where the values hang of the property that is open.
-    #[inline(always)]
-    pub fn hook(&self, alloc: Global) -> Result<Option<Hook>, NoMemory>
-        ensures { IfOk result (λ hook. (o : Option Term) → spec.hooked hook o ≡ spec.hang_pending self.now o) }
-    {
-        match &self.pending {
-            Pending::Property(name) => Hook::of(alloc, self, name.bytes()),
-            _ => Ok(None),
+            Some(lit) => self.hang(alloc, Term::Literal(lit)),
         }
     }
 
@@ -202,6 +192,7 @@ impl Node {
         }
     }
 
+    #[inline(never)]
     fn take_written(
         &mut self,
         keyword: Keyword,
@@ -259,22 +250,15 @@ impl Node {
     {
         match expanded {
             Expanded::Null => Ok(Emits::none()),
-            Expanded::Keyword(text) => self.hang_type_name(alloc, text),
-            Expanded::Name(text) => self.hang_type_name(alloc, text),
+            Expanded::Keyword(text) | Expanded::Name(text) => self.hang_type_name(alloc, text),
         }
     }
 
-    #[tactic(auto, using(crate::proofs::Hanging::hang_none))]
     fn hang_type_name(&self, alloc: Global, name: Text) -> Result<Emits, NoMemory>
         ensures { IfOk result (λ quads. quads ≡ spec.hang self.now rdf_type (term_of_text name)) }
     {
-        let Some(term) = term_of_text(alloc, name)? else {
-            return Ok(Emits::none());
-        };
-        match Hook::of(alloc, self, rdf_type())? {
-            Some(hook) => Ok(hook.quad(term)),
-            None => Ok(Emits::none()),
-        }
+        let mut object = term_of_text(alloc, name)?;
+        self.say(alloc, rdf_type(), &mut object)
     }
 
     /// Keeps the language of a value object.

@@ -1,13 +1,15 @@
 //! Open objects, each behind one pointer.
 ghost use Rattle.std.specs.Prelude.{◌≡◌, Ok, Err, IfOk, IfErr, OnOk, OnErr};
+ghost use Rattle.std.specs.Option.{option_copied};
 ghost use Rattle.jl_frames.specs.Answers.{HasCause};
+ghost use Rattle.jl_frames.specs.Machine.{hang_on};
 ghost use Rattle.jl_frames.specs.Nodes as spec;
 
 use super::emits::Emits;
 use super::facts::{KeyFact, ValueFact};
 use super::nodes::{Node, Pending};
 use super::states::FrameStop;
-use jl_model::{Fault, NoMemory, Term};
+use jl_model::{Fault, NoMemory};
 use std::alloc::Global;
 use std::marker::Model;
 
@@ -44,12 +46,21 @@ impl OpenNode {
         &self.place
     }
 
-    /// The name of the node, where it is well-formed. The rest goes.
-    pub fn into_subject(self) -> Option<Term>
-        ensures { result ≡ self.subject }
+    /// The quad that links the node to the object round it. Its name moves into the quad, unless
+    /// memory is wanting.
+    #[inline(always)]
+    pub(crate) fn hang_on(
+        &mut self,
+        alloc: Global,
+        outer: Option<&OpenNode>,
+    ) -> Result<Emits, NoMemory>
+        ensures ok { IfOk result (λ quads. quads ≡ hang_on (option_copied outer.entry) self.old.subject) }
+        ensures err { OnErr result (self.new ≡ self.old) }
     {
-        let node = Box::into_inner(self.place);
-        node.subject
+        match outer {
+            None => Ok(Emits::none()),
+            Some(outer) => outer.node().hang_from(alloc, &mut self.place.subject),
+        }
     }
 
     /// Takes a key.

@@ -4,6 +4,7 @@ ghost use Rattle.std.specs.Prelude.{◌≡◌, None, IfOk};
 use jl_model::{NoMemory, Quad};
 use std::alloc::Global;
 use std::marker::Model;
+use std::mem;
 
 /// Memory for one quad, and the quad once it has been made. It moves as one pointer, so that a
 /// quad is handed on without being copied.
@@ -32,12 +33,15 @@ impl Room {
         }
     }
 
-    /// Puts a quad into the room, if there is one. It takes no memory.
+    /// The room with this quad, if it is one. It takes no memory, and what stood in the room isn't
+    /// looked at: the memory of a quad there would be lost.
     #[inline(always)]
-    pub fn fill(&mut self, quad: Option<Quad>)
-        ensures { self.new ≡ quad }
+    pub fn filled(self, quad: Option<Quad>) -> Room
+        ensures { result ≡ quad }
     {
-        *self.place = quad;
+        let mut place = self.place;
+        mem::forget(Box::replace(&mut place, quad));
+        Room { place }
     }
 
     /// The quad, lent.
