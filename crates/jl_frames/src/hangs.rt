@@ -78,10 +78,26 @@ fn quad_of(
     ensures ok { IfOk result (λ quads. quads ≡ spec.quad_with subject.now predicate.now object.old (option_copied graph.entry)) }
     ensures err { OnErr result (object.new ≡ object.old) }
 {
-    let subject = subject.copy(alloc)?;
-    let predicate = Text::from_bytes(alloc, predicate)?;
     let graph = copy_of(alloc, graph)?;
     let room = Room::new(alloc)?;
+    quad_in(alloc, room, subject, predicate, object, graph)
+}
+
+/// The same, in this room and with this graph. Few branches stand before the quad is made, so
+/// that the compiler puts its making here, and its parts aren't handed on once more.
+fn quad_in(
+    alloc: Global,
+    room: Room,
+    subject: &Term,
+    predicate: &[u8],
+    object: &mut Option<Term>,
+    graph: Option<Term>,
+) -> Result<Emits, NoMemory>
+    ensures ok { IfOk result (λ quads. quads ≡ spec.quad_with subject.now predicate.now object.old graph) }
+    ensures err { OnErr result (object.new ≡ object.old) }
+{
+    let subject = subject.copy(alloc)?;
+    let predicate = Text::from_bytes(alloc, predicate)?;
     Ok(match object.take() {
         None => Emits::none(),
         Some(object) => made(room, subject, predicate, object, graph),
@@ -89,7 +105,6 @@ fn quad_of(
 }
 
 /// The quad of these parts, where each is well-formed. It takes no memory.
-#[inline(always)]
 fn made(room: Room, subject: Term, predicate: Text, object: Term, graph: Option<Term>) -> Emits
     ensures { result ≡ formed (parts_of subject predicate object graph ∷ []) }
 {
