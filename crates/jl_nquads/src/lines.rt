@@ -6,12 +6,14 @@ ghost use Rattle.jl_model.specs.Causes.{HasCause};
 ghost use Rattle.jl_model.specs.Lines.{line, spaced, iri_text, term_text, lit_text, graph_text, suffix_text, escaped};
 ghost use Rattle.jl_model.specs.Parts.{xsd_string, parts_of};
 ghost use Rattle.jl_io.specs.Outside.{appended};
-ghost use Rattle.jl_nquads.specs.Endings.{ending, IsPlain};
-ghost use Rattle.jl_nquads.specs.Escapes.{needs_escape, plain_len_of};
+ghost use Rattle.jl_nquads.specs.Endings.{ending};
+ghost use Rattle.jl_nquads.specs.Escapes.{plain_len_of};
+ghost use Rattle.jl_nquads.specs.Forms.{framed, typed, triple_line};
 ghost use Rattle.jl_nquads.specs.Puts.{PutsFront, joined};
 
+use super::forms::{Form, Sign, first_escaped, form_of, is_xsd_string};
 use jl_io::{ByteOut, Failed};
-use jl_model::{Lit, Quad, Term, Text};
+use jl_model::{Quad, Term, Text};
 
 /// Puts all the bytes.
 fn put_all<B: ByteOut>(out: &mut B, bytes: &[u8]) -> Result<(), Failed>
@@ -51,7 +53,8 @@ pub fn write_line<B: ByteOut>(quad: &Quad, out: &mut B) -> Result<(), Failed>
     put_line(quad.subject(), predicate, quad.object(), quad.graph(), out)
 }
 
-/// Puts the line of these parts. The lines that stand in most datasets are put in few calls.
+/// Puts the line of these parts. A line in the default graph goes out at once, where the string of
+/// a literal has no escape and no language tag.
 fn put_line<B: ByteOut>(
     subject: &Term,
     predicate: &[u8],
@@ -64,79 +67,96 @@ fn put_line<B: ByteOut>(
     ensures cause { HasCause (B.put_faults out.old) (B.put_faults out.new) (IsErr result) }
     ensures beside { B.beside out.old out.new }
 {
-    match (subject, object, graph) {
-        (Term::Iri(subject), Term::Iri(object), None) => {
-            put_iris(subject.bytes(), predicate, object.bytes(), out)
-        }
-        (Term::Iri(subject), Term::Literal(lit), None) if is_plain(lit) => {
-            put_plain(subject.bytes(), predicate, lit, out)
-        }
-        _ => put_terms(subject, predicate, object, graph, out),
+    match graph {
+        None => put_triple(subject, predicate, object, out),
+        Some(_) => put_terms(subject, predicate, object, graph, out),
     }
 }
 
-/// Puts the line of three IRIs.
-#[tactic(auto, using(crate::proofs::Triples::iris_line))]
-fn put_iris<B: ByteOut>(
+/// Puts the line of these parts in the default graph.
+fn put_triple<B: ByteOut>(
+    subject: &Term,
+    predicate: &[u8],
+    object: &Term,
+    out: &mut B,
+) -> Result<(), Failed>
+    ensures put { OnOk result (B.written out.new ≡ appended (B.written out.old) (line (parts_of subject.now predicate.now object.now None))) }
+    ensures cut { OnErr result (PutsFront (B.written out.old) (line (parts_of subject.now predicate.now object.now None)) (B.written out.new)) }
+    ensures cause { HasCause (B.put_faults out.old) (B.put_faults out.new) (IsErr result) }
+    ensures beside { B.beside out.old out.new }
+{
+    match (form_of(subject), form_of(object)) {
+        (Form::Framed(sign, name), Form::Framed(object_sign, text)) => {
+            put_framed(sign, name, predicate, object_sign, text, out)
+        }
+        (Form::Framed(sign, name), Form::Typed(text, datatype)) => {
+            put_typed(sign, name, predicate, text, datatype, out)
+        }
+        _ => put_terms(subject, predicate, object, None, out),
+    }
+}
+
+/// Puts the line of a subject and an object that are texts between signs.
+#[tactic(auto, using(crate::proofs::Triples::framed_line))]
+fn put_framed<B: ByteOut>(
+    sign: Sign,
     subject: &[u8],
     predicate: &[u8],
+    object_sign: Sign,
     object: &[u8],
     out: &mut B,
 ) -> Result<(), Failed>
-    ensures put { OnOk result (B.written out.new ≡ appended (B.written out.old) (line (parts_of (Term.Iri subject.now) predicate.now (Term.Iri object.now) None))) }
-    ensures cut { OnErr result (PutsFront (B.written out.old) (line (parts_of (Term.Iri subject.now) predicate.now (Term.Iri object.now) None)) (B.written out.new)) }
+    ensures put { OnOk result (B.written out.new ≡ appended (B.written out.old) (triple_line (framed sign subject.now) predicate.now (framed object_sign object.now))) }
+    ensures cut { OnErr result (PutsFront (B.written out.old) (triple_line (framed sign subject.now) predicate.now (framed object_sign object.now)) (B.written out.new)) }
     ensures cause { HasCause (B.put_faults out.old) (B.put_faults out.new) (IsErr result) }
     ensures beside { B.beside out.old out.new }
 {
+    let between = sign.before_predicate();
+    let before = object_sign.before_object();
     put_parts(
         out,
-        &[b"<", subject, b"> <", predicate, b"> <", object, b"> .\n"],
+        &[
+            sign.open(),
+            subject,
+            between,
+            predicate,
+            before,
+            object,
+            object_sign.end(),
+        ],
     )
 }
 
-/// Puts the line of a literal that needs neither an escape nor a datatype.
-#[tactic(auto, using(crate::proofs::Triples::plain_line))]
-fn put_plain<B: ByteOut>(
+/// Puts the line of a subject between signs and of a string with a datatype.
+#[tactic(auto, using(crate::proofs::Triples::typed_line))]
+fn put_typed<B: ByteOut>(
+    sign: Sign,
     subject: &[u8],
     predicate: &[u8],
-    lit: &Lit,
+    text: &[u8],
+    datatype: &[u8],
     out: &mut B,
 ) -> Result<(), Failed>
-    requires { IsPlain lit.now }
-    ensures put { OnOk result (B.written out.new ≡ appended (B.written out.old) (line (parts_of (Term.Iri subject.now) predicate.now (Term.Literal lit.now) None))) }
-    ensures cut { OnErr result (PutsFront (B.written out.old) (line (parts_of (Term.Iri subject.now) predicate.now (Term.Literal lit.now) None)) (B.written out.new)) }
+    ensures put { OnOk result (B.written out.new ≡ appended (B.written out.old) (triple_line (framed sign subject.now) predicate.now (typed text.now datatype.now))) }
+    ensures cut { OnErr result (PutsFront (B.written out.old) (triple_line (framed sign subject.now) predicate.now (typed text.now datatype.now)) (B.written out.new)) }
     ensures cause { HasCause (B.put_faults out.old) (B.put_faults out.new) (IsErr result) }
     ensures beside { B.beside out.old out.new }
 {
-    let text = lit.text.bytes();
+    let between = sign.before_predicate();
     put_parts(
         out,
-        &[b"<", subject, b"> <", predicate, b"> \"", text, b"\" .\n"],
+        &[
+            sign.open(),
+            subject,
+            between,
+            predicate,
+            b"> \"",
+            text,
+            b"\"^^<",
+            datatype,
+            b"> .\n",
+        ],
     )
-}
-
-/// Whether the literal is written as its text between quotes.
-#[tactic(auto, using(crate::proofs::Triples::plain_parts))]
-fn is_plain(lit: &Lit) -> bool
-    ensures { result ≡ true → IsPlain lit.now }
-{
-    has_no_suffix(lit.datatype.bytes(), &lit.language) && has_no_escape(lit.text.bytes())
-}
-
-fn has_no_suffix(datatype: &[u8], language: &Option<Text>) -> bool
-    ensures { result ≡ true → suffix_text datatype.now language.now ≡ [] }
-{
-    match language {
-        None => is_xsd_string(datatype),
-        Some(_) => false,
-    }
-}
-
-#[tactic(auto, using(crate::proofs::EscapeRuns::unescaped))]
-fn has_no_escape(text: &[u8]) -> bool
-    ensures { result ≡ true → flat_map escaped text.now ≡ text.now }
-{
-    first_escaped(text).is_none()
 }
 
 /// Puts the line of these parts, term by term.
@@ -241,12 +261,6 @@ fn put_datatype<B: ByteOut>(datatype: &[u8], out: &mut B) -> Result<(), Failed>
     }
 }
 
-fn is_xsd_string(datatype: &[u8]) -> bool
-    ensures { result ≡ bytes_eq datatype.now xsd_string }
-{
-    datatype == b"http://www.w3.org/2001/XMLSchema#string".as_slice()
-}
-
 /// Puts a literal's string with its escapes.
 #[tactic(auto, using(crate::proofs::EscapeRuns::escaped_cut))]
 fn put_escaped<B: ByteOut>(text: &[u8], out: &mut B) -> Result<(), Failed>
@@ -293,18 +307,6 @@ fn plain_len(text: &[u8]) -> usize
         None => text.len(),
         Some(at) => at,
     }
-}
-
-fn first_escaped(text: &[u8]) -> Option<usize>
-    ensures { result ≡ position needs_escape text.now }
-{
-    text.iter().position(|byte| is_escaped(*byte))
-}
-
-fn is_escaped(byte: u8) -> bool
-    ensures { result ≡ needs_escape byte }
-{
-    matches!(byte, b'"' | b'\\' | b'\n' | b'\r')
 }
 
 fn put_escape<B: ByteOut>(byte: u8, out: &mut B) -> Result<(), Failed>

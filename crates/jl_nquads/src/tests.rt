@@ -88,6 +88,19 @@ fn each_form_of_quad(rt: HostRuntime) -> Result<(), Fail> {
     for (subject, object, graph, line) in [
         (s, o, None, "<http://a/s> <http://a/p> <http://a/o> .\n"),
         (x, x, None, "_:x <http://a/p> _:x .\n"),
+        (s, x, None, "<http://a/s> <http://a/p> _:x .\n"),
+        (
+            x,
+            Given::Typed("1", "http://a/d"),
+            None,
+            "_:x <http://a/p> \"1\"^^<http://a/d> .\n",
+        ),
+        (
+            x,
+            Given::Typed("x", STRING),
+            None,
+            "_:x <http://a/p> \"x\" .\n",
+        ),
         (
             s,
             o,
@@ -127,6 +140,10 @@ fn each_form_of_literal(rt: HostRuntime) -> Result<(), Fail> {
         (
             Given::Typed("1", "http://a/d"),
             "<http://a/s> <http://a/p> \"1\"^^<http://a/d> .\n",
+        ),
+        (
+            Given::Typed("\"", "http://a/d"),
+            "<http://a/s> <http://a/p> \"\\\"\"^^<http://a/d> .\n",
         ),
         (
             Given::Tagged("x", "en"),
