@@ -1,5 +1,6 @@
 -- Texts that are put one after another.
-use Rattle.std.proofs.Common.{◌≡◌, ℕ, ◌+◌, ◌<◌, List, ◌++◌, [], take, drop, length, Option, Some, None, refl, sym, ap, ◌∙◌, arith, append_assoc, append-nil, length-append}
+use Rattle.std.proofs.Common.{◌≡◌, ℕ, ◌+◌, ◌-◌, ◌<◌, List, ◌++◌, [], take, drop, length, Option, Some, None, refl, sym, ap, ◌∙◌, subst, arith, append_assoc, append-nil, length-append, length-drop}
+use Rattle.std.proofs.lemmas.List.{take-append-drop, take_all}
 use Rattle.std.proofs.Math.Seq.{take-add}
 use Rattle.jl_io.specs.Outside.{appended}
 use Rattle.jl_nquads.specs.Puts.{PutsFront}
@@ -30,3 +31,9 @@ cut_first w0 w1 a b h =
 pub cut_then : (w0 w1 w2 : Option (List ℕ)) (a b : List ℕ) → w1 ≡ appended w0 a → PutsFront w1 b w2 → PutsFront w0 (a ++ b) w2
 cut_then w0 w1 w2 a b h k =
     record { front = a ++ k.front; back = k.back; text_is = ap (λ t. a ++ t) k.text_is ∙ sym (append_assoc a k.front k.back); some_left = k.some_left; put = put_then w0 w1 w2 a k.front h k.put }
+
+-- a front of the bytes was put, and the rest of them was cut
+pub rest_cut : (w0 w1 w2 : Option (List ℕ)) (bytes : List ℕ) (n : ℕ) → w1 ≡ appended w0 (take n bytes) → PutsFront w1 (take (length bytes - n) (drop n bytes)) w2 → PutsFront w0 bytes w2
+rest_cut w0 w1 w2 bytes n h k =
+    let rest : take (length bytes - n) (drop n bytes) ≡ drop n bytes = take_all (length bytes - n) (drop n bytes) (omega (arith, length-drop n bytes)) in
+    subst (λ t. PutsFront w0 t w2) (take-append-drop n bytes) (cut_then w0 w1 w2 (take n bytes) (drop n bytes) h (subst (λ t. PutsFront w1 t w2) rest k))

@@ -15,8 +15,28 @@ use super::forms::{Form, Sign, first_escaped, form_of, is_xsd_string};
 use jl_io::{ByteOut, Failed};
 use jl_model::{Quad, Term, Text};
 
-/// Puts all the bytes.
+/// Puts all the bytes, which the out mostly takes in one call.
+#[inline(always)]
 fn put_all<B: ByteOut>(out: &mut B, bytes: &[u8]) -> Result<(), Failed>
+    ensures put { OnOk result (B.written out.new ≡ appended (B.written out.old) (bytes.now)) }
+    ensures cut { OnErr result (PutsFront (B.written out.old) (bytes.now) (B.written out.new)) }
+    ensures cause { HasCause (B.put_faults out.old) (B.put_faults out.new) (IsErr result) }
+    ensures beside { B.beside out.old out.new }
+{
+    if bytes.is_empty() {
+        return Ok(());
+    }
+    let taken = out.put(bytes)?;
+    if taken == bytes.len() {
+        Ok(())
+    } else {
+        put_rest(out, &bytes[taken..])
+    }
+}
+
+/// Puts all the bytes, however few of them the out takes at once.
+#[inline(never)]
+fn put_rest<B: ByteOut>(out: &mut B, bytes: &[u8]) -> Result<(), Failed>
     ensures put { OnOk result (B.written out.new ≡ appended (B.written out.old) (bytes.now)) }
     ensures cut { OnErr result (PutsFront (B.written out.old) (bytes.now) (B.written out.new)) }
     ensures cause { HasCause (B.put_faults out.old) (B.put_faults out.new) (IsErr result) }

@@ -35,6 +35,7 @@ impl<'a, B: ByteOut> ByteOut for BlockOut<'a, B> {
     ghost beside = { λ a b. (b.out.ghost_name ≡ a.out.ghost_name) × (b.block.ghost_name ≡ a.block.ghost_name) × B.beside a.out.now b.out.now
         × (CountsLines (B.written a.out.now) a.block.now.lines → CountsLines (B.written b.out.now) b.block.now.lines) };
 
+    #[inline(always)]
     fn put(&mut self, bytes: &[u8]) -> Result<usize, Failed> {
         make_room(self.out, self.block)?;
         Ok(self.block.gather(bytes))
@@ -78,6 +79,7 @@ fn line_feeds(bytes: &[u8]) -> u64
 }
 
 /// Hands on all that is held.
+#[inline(never)]
 pub fn hand_on<B: ByteOut>(out: &mut B, block: &mut Block) -> Result<(), Failed>
     ensures hands_on { HandsOn (B.written out.old) (B.written out.new) block.old block.new }
     ensures all { OnOk result (held_of block.new ≡ []) }
@@ -93,6 +95,7 @@ pub fn hand_on<B: ByteOut>(out: &mut B, block: &mut Block) -> Result<(), Failed>
 }
 
 /// Hands on all that is held where there is no more room.
+#[inline(always)]
 fn make_room<B: ByteOut>(out: &mut B, block: &mut Block) -> Result<(), Failed>
     ensures hands_on { HandsOn (B.written out.old) (B.written out.new) block.old block.new }
     ensures room { OnOk result (vec_len block.new.gathered < 65536) }

@@ -38,6 +38,7 @@ impl Block {
     }
 
     /// Whether there is no more room.
+    #[inline(always)]
     pub fn is_full(&self) -> bool
         ensures { result ≡ nat_le 65536 (vec_len self.now.gathered) }
     {
@@ -45,6 +46,7 @@ impl Block {
     }
 
     /// Gathers as many bytes from the front as there is room for, and tells how many.
+    #[inline(always)]
     pub fn gather(&mut self, bytes: &[u8]) -> usize
         requires room { vec_len self.old.gathered < 65536 }
         requires bytes { 0 < length bytes.now }

@@ -1,15 +1,7 @@
-use Rattle.std.proofs.Common.{arith}
-use Rattle.std.proofs.lemmas.Grind.{common_steps}
-use Rattle.jl_nquads.proofs.Fronts.{appended_piece}
+use Rattle.jl_nquads.proofs.Fronts.{rest_cut}
+use Rattle.jl_nquads.proofs.Outcomes.{on_err_too}
 use Rattle.jl_nquads.proofs.lines.put_all.Goals as goal
 
-pub loop-at-preserved : goal.loop-at-preserved
-loop-at-preserved g c =
-    let e = appended_piece (g.B.ByteOut.written c.args.out.now) c.args.bytes.now c.loop-at.at c.in_ok-at.field-0 in
-    let b = g.met.B.ByteOut.joins c.args.out.now c.loop-at.out c.put.new.self c.loop-at.invariant.beside c.put.ensures.beside in
-    record {
-      within = grind (arith, common_steps);
-      put = grind (arith, common_steps, c.in_ok-at.ensures.put);
-      later = omega (arith, c.put.ensures.cause.later);
-      beside = b;
-    }
+pub returns-else-taken-bytes-clause-cut : goal.returns-else-taken-bytes-clause-cut
+returns-else-taken-bytes-clause-cut g c =
+    on_err_too c.put_rest.result (rest_cut (g.B.ByteOut.written c.args.out.now) (g.B.ByteOut.written c.put.new.self) (g.B.ByteOut.written c.put_rest.new.out) c.args.bytes.now c.in_ok-taken.taken c.in_ok-taken.ensures.put) c.put_rest.ensures.cut
