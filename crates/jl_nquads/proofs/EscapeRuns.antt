@@ -1,15 +1,15 @@
 -- Runs of bytes that need no escape.
-use Rattle.std.proofs.Common.{◌≡◌, ℕ, suc, ◌+◌, ◌<◌, ◌≤◌, ◌==◌, ◌||◌, Bool, true, false, not, cond, List, [], ◌∷◌, ◌++◌, take, drop, length, flat_map, Option, Some, None, refl, sym, ap, ◌∙◌, subst, arith, inl, inr, nat_lt, append-nil, get_or}
+use Rattle.std.proofs.Common.{◌≡◌, ℕ, suc, ◌+◌, ◌-◌, ◌<◌, ◌≤◌, ◌==◌, ◌||◌, ◌&&◌, Bool, true, false, not, cond, List, [], ◌∷◌, ◌++◌, take, drop, length, flat_map, Option, Some, None, refl, sym, ap, ap₂, ◌∙◌, subst, arith, inl, inr, nat_lt, append-nil, get_or}
 use Rattle.std.proofs.Math.Seq.{take-add}
-use Rattle.std.proofs.lemmas.Bool.{cases_Bool, cond-true, ltb-false}
-use Rattle.std.proofs.lemmas.List.{take-append-drop, take_all}
+use Rattle.std.proofs.lemmas.Bool.{and_parts, cases_Bool, cond-true, ltb-false, not-true}
+use Rattle.std.proofs.lemmas.List.{take-append-drop}
 use Rattle.std.proofs.lemmas.List.Concat.{flat_map-append}
 use Rattle.std.specs.List.{position}
 use Rattle.jl_io.specs.Outside.{appended}
 use Rattle.jl_model.specs.Lines.{escaped}
 use Rattle.jl_nquads.specs.Escapes.{needs_escape, plain_len_of}
 use Rattle.jl_nquads.specs.Puts.{PutsFront}
-use Rattle.jl_nquads.proofs.Fronts.{cut_first, cut_then, put_then}
+use Rattle.jl_nquads.proofs.Fronts.{cut_first, cut_then, put_then, rest_of}
 
 -- the run is a part of the text
 pub run_within : (text : List ℕ) → plain_len_of text ≤ length text
@@ -48,11 +48,12 @@ run_escaped (c ∷ text) = elim (cases_Bool (needs_escape c)) [
       (ap (λ t. t ++ flat_map escaped (take (plain_len_of text) text)) (same_byte c e) ∙ ap (λ t. c ∷ t) (run_escaped text))
 ]
 
--- a text in which no byte needs an escape is written as it is
-pub unescaped : (text : List ℕ) → position needs_escape text ≡ None → flat_map escaped text ≡ text
-unescaped text h =
-    let all : take (plain_len_of text) text ≡ text = take_all (plain_len_of text) text (omega (arith, plain_whole text h)) in
-    subst (λ t. flat_map escaped t ≡ t) all (run_escaped text)
+-- a text that is written as it is, and one byte more that needs no escape
+pub unescaped_more : (bytes : List ℕ) (none : Bool) (c : ℕ) (more : Bool) → (none ≡ true → flat_map escaped bytes ≡ bytes) → more ≡ (none && not (needs_escape c)) → more ≡ true
+    → flat_map escaped (bytes ++ c ∷ []) ≡ bytes ++ c ∷ []
+unescaped_more bytes none c more h e t =
+    let both = and_parts none (not (needs_escape c)) (sym e ∙ t) in
+    flat_map-append escaped bytes (c ∷ []) ∙ ap (λ t. t ++ (escaped c ++ [])) (h both.0) ∙ ap (λ t. bytes ++ t) (append-nil (escaped c) ∙ same_byte c (not-true (needs_escape c) both.1))
 
 -- a text is a front of it and what is left
 escaped-split : (text : List ℕ) (n : ℕ) → flat_map escaped text ≡ flat_map escaped (take n text) ++ flat_map escaped (drop n text)
@@ -69,11 +70,21 @@ escape_cut w0 w1 [] some h = absurd (omega arith)
 escape_cut w0 w1 (c ∷ text) some h = cut_first w0 w1 (escaped c) (flat_map escaped text) h
 
 -- a run was cut
-pub run_cut : (w0 w1 : Option (List ℕ)) (text : List ℕ) → PutsFront w0 (take (plain_len_of text) text) w1 → PutsFront w0 (flat_map escaped text) w1
-run_cut w0 w1 text h =
-    let whole : flat_map escaped text ≡ take (plain_len_of text) text ++ flat_map escaped (drop (plain_len_of text) text) =
-    escaped-split text (plain_len_of text) ∙ ap (λ t. t ++ flat_map escaped (drop (plain_len_of text) text)) (run_escaped text) in
-    subst (λ t. PutsFront w0 t w1) (sym whole) (cut_first w0 w1 (take (plain_len_of text) text) (flat_map escaped (drop (plain_len_of text) text)) h)
+pub run_cut : (w0 w1 : Option (List ℕ)) (text : List ℕ) (n : ℕ) → flat_map escaped (take n text) ≡ take n text → PutsFront w0 (take n text) w1 → PutsFront w0 (flat_map escaped text) w1
+run_cut w0 w1 text n plain h =
+    let whole : flat_map escaped text ≡ take n text ++ flat_map escaped (drop n text) = escaped-split text n ∙ ap (λ t. t ++ flat_map escaped (drop n text)) plain in
+    subst (λ t. PutsFront w0 t w1) (sym whole) (cut_first w0 w1 (take n text) (flat_map escaped (drop n text)) h)
+
+-- two runs, one behind the other, are one
+pub plain_more : (text : List ℕ) (at n : ℕ) → flat_map escaped (take at text) ≡ take at text → flat_map escaped (take n (drop at text)) ≡ take n (drop at text) → flat_map escaped (take (at + n) text) ≡ take (at + n) text
+plain_more text at n h k =
+    ap (flat_map escaped) (take-add at n text) ∙ flat_map-append escaped (take at text) (take n (drop at text)) ∙ ap₂ (λ a b. a ++ b) h k ∙ sym (take-add at n text)
+
+-- a run, and the run at the front of the rest
+pub run_more : (text : List ℕ) (at n : ℕ) → flat_map escaped (take at text) ≡ take at text → n ≡ plain_len_of (take (length text - at) (drop at text)) → flat_map escaped (take (at + n) text) ≡ take (at + n) text
+run_more text at n h e =
+    let front : n ≡ plain_len_of (drop at text) = e ∙ ap plain_len_of (rest_of text at) in
+    plain_more text at n h (subst (λ k. flat_map escaped (take k (drop at text)) ≡ take k (drop at text)) (sym front) (run_escaped (drop at text)))
 
 -- one more piece of the text was put
 pub escaped_piece : (w0 w1 w2 : Option (List ℕ)) (text : List ℕ) (at n : ℕ) → w1 ≡ appended w0 (flat_map escaped (take at text)) → w2 ≡ appended w1 (flat_map escaped (take n (drop at text)))

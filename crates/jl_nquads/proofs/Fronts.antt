@@ -32,8 +32,11 @@ pub cut_then : (w0 w1 w2 : Option (List ℕ)) (a b : List ℕ) → w1 ≡ append
 cut_then w0 w1 w2 a b h k =
     record { front = a ++ k.front; back = k.back; text_is = ap (λ t. a ++ t) k.text_is ∙ sym (append_assoc a k.front k.back); some_left = k.some_left; put = put_then w0 w1 w2 a k.front h k.put }
 
+-- the rest of the bytes, as a slice of them
+pub rest_of : (bytes : List ℕ) (n : ℕ) → take (length bytes - n) (drop n bytes) ≡ drop n bytes
+rest_of bytes n = take_all (length bytes - n) (drop n bytes) (omega (arith, length-drop n bytes))
+
 -- a front of the bytes was put, and the rest of them was cut
 pub rest_cut : (w0 w1 w2 : Option (List ℕ)) (bytes : List ℕ) (n : ℕ) → w1 ≡ appended w0 (take n bytes) → PutsFront w1 (take (length bytes - n) (drop n bytes)) w2 → PutsFront w0 bytes w2
 rest_cut w0 w1 w2 bytes n h k =
-    let rest : take (length bytes - n) (drop n bytes) ≡ drop n bytes = take_all (length bytes - n) (drop n bytes) (omega (arith, length-drop n bytes)) in
-    subst (λ t. PutsFront w0 t w2) (take-append-drop n bytes) (cut_then w0 w1 w2 (take n bytes) (drop n bytes) h (subst (λ t. PutsFront w1 t w2) rest k))
+    subst (λ t. PutsFront w0 t w2) (take-append-drop n bytes) (cut_then w0 w1 w2 (take n bytes) (drop n bytes) h (subst (λ t. PutsFront w1 t w2) (rest_of bytes n) k))

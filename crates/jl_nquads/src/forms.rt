@@ -1,11 +1,11 @@
 //! How a term is written in a line, as far as the whole line can be put at once.
-ghost use Rattle.std.specs.Prelude.{◌≡◌, ◌++◌, None, Some, true, codes, flat_map, position};
+ghost use Rattle.std.specs.Prelude.{◌≡◌, ◌++◌, None, codes, flat_map};
 ghost use Rattle.std.specs.Str.{bytes_eq};
 ghost use Rattle.jl_model.specs.Lines.{escaped};
 ghost use Rattle.jl_model.specs.Parts.{xsd_string};
-ghost use Rattle.jl_nquads.specs.Escapes.{needs_escape};
 ghost use Rattle.jl_nquads.specs.Forms.{IsForm, open_of, close_of};
 
+use super::escapes::has_no_escape;
 use jl_model::{Lit, Term};
 
 /// The signs around a text.
@@ -77,6 +77,7 @@ impl Sign {
 }
 
 /// How the term is written.
+#[inline(always)]
 #[tactic(auto, using(crate::proofs::Triples::label_framed))]
 pub(crate) fn form_of(term: &Term) -> Form<'_>
     ensures { IsForm result term.now }
@@ -88,6 +89,7 @@ pub(crate) fn form_of(term: &Term) -> Form<'_>
     }
 }
 
+#[inline(never)]
 fn form_of_lit(lit: &Lit) -> Form<'_>
     ensures { IsForm result (Term.Literal lit.now) }
 {
@@ -117,24 +119,4 @@ pub(crate) fn is_xsd_string(datatype: &[u8]) -> bool
     ensures { result ≡ bytes_eq datatype.now xsd_string }
 {
     datatype == b"http://www.w3.org/2001/XMLSchema#string".as_slice()
-}
-
-#[tactic(auto, using(crate::proofs::EscapeRuns::unescaped))]
-fn has_no_escape(text: &[u8]) -> bool
-    ensures { result ≡ true → flat_map escaped text.now ≡ text.now }
-{
-    first_escaped(text).is_none()
-}
-
-/// Where the first byte stands that has to be escaped.
-pub(crate) fn first_escaped(text: &[u8]) -> Option<usize>
-    ensures { result ≡ position needs_escape text.now }
-{
-    text.iter().position(|byte| is_escaped(*byte))
-}
-
-fn is_escaped(byte: u8) -> bool
-    ensures { result ≡ needs_escape byte }
-{
-    matches!(byte, b'"' | b'\\' | b'\n' | b'\r')
 }

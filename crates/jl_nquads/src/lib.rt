@@ -1,6 +1,7 @@
 //! Lines of N-Quads: the line of a quad, and an out of quads that puts their lines.
 #![tactic(auto)]
 
+mod escapes;
 mod forms;
 mod line_outs;
 mod lines;

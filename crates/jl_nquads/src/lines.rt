@@ -7,11 +7,11 @@ ghost use Rattle.jl_model.specs.Lines.{line, spaced, iri_text, term_text, lit_te
 ghost use Rattle.jl_model.specs.Parts.{xsd_string, parts_of};
 ghost use Rattle.jl_io.specs.Outside.{appended};
 ghost use Rattle.jl_nquads.specs.Endings.{ending};
-ghost use Rattle.jl_nquads.specs.Escapes.{plain_len_of};
 ghost use Rattle.jl_nquads.specs.Forms.{framed, typed, triple_line};
 ghost use Rattle.jl_nquads.specs.Puts.{PutsFront, joined};
 
-use super::forms::{Form, Sign, first_escaped, form_of, is_xsd_string};
+use super::escapes::plain_len;
+use super::forms::{Form, Sign, form_of, is_xsd_string};
 use jl_io::{ByteOut, Failed};
 use jl_model::{Quad, Term, Text};
 
@@ -50,6 +50,7 @@ fn put_rest<B: ByteOut>(out: &mut B, bytes: &[u8]) -> Result<(), Failed>
 }
 
 /// Puts these texts, one after another.
+#[inline(always)]
 fn put_parts<B: ByteOut>(out: &mut B, parts: &[&[u8]]) -> Result<(), Failed>
     ensures put { OnOk result (B.written out.new ≡ appended (B.written out.old) (joined parts.now)) }
     ensures cut { OnErr result (PutsFront (B.written out.old) (joined parts.now) (B.written out.new)) }
@@ -298,7 +299,7 @@ fn put_escaped<B: ByteOut>(text: &[u8], out: &mut B) -> Result<(), Failed>
 
 /// Puts the bytes before the first that has to be escaped, or that one with its escape. It tells
 /// how many bytes of the text these are.
-#[tactic(auto, using(crate::proofs::EscapeRuns::run_escaped, crate::proofs::EscapeRuns::escape_put, crate::proofs::EscapeRuns::escape_cut, crate::proofs::EscapeRuns::run_cut))]
+#[tactic(auto, using(crate::proofs::EscapeRuns::escape_put, crate::proofs::EscapeRuns::escape_cut, crate::proofs::EscapeRuns::run_cut))]
 fn put_run<B: ByteOut>(text: &[u8], out: &mut B) -> Result<usize, Failed>
     requires { 0 < length text.now }
     ensures some { IfOk result (λ n. 0 < n) }
@@ -315,17 +316,6 @@ fn put_run<B: ByteOut>(text: &[u8], out: &mut B) -> Result<usize, Failed>
     } else {
         put_all(out, &text[..run])?;
         Ok(run)
-    }
-}
-
-/// How many bytes stand before the first that has to be escaped.
-#[tactic(auto, using(crate::proofs::EscapeRuns::plain_whole))]
-fn plain_len(text: &[u8]) -> usize
-    ensures { result ≡ plain_len_of text.now }
-{
-    match first_escaped(text) {
-        None => text.len(),
-        Some(at) => at,
     }
 }
 

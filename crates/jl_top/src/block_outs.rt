@@ -8,6 +8,9 @@ ghost use Rattle.jl_top.specs.Blocks.{HandsOn, held_of, is_line_feed, CountsLine
 use super::blocks::Block;
 use jl_io::{ByteOut, Failed};
 
+/// How many bytes are counted at once.
+const AT_ONCE: usize = 128;
+
 /// An out over a block and over the out to which the block is handed on when it is full.
 #[derive(Drop)]
 pub struct BlockOut<'a, B: ByteOut> {
@@ -67,13 +70,29 @@ fn hand_on_some<B: ByteOut>(out: &mut B, block: &mut Block) -> Result<(), Failed
     }
 }
 
-/// How many line feeds stand in the bytes of a block. Many bytes are looked at at once.
+/// How many line feeds stand in the bytes of a block.
 fn line_feeds(bytes: &[u8]) -> u64
     requires { length bytes.now ≤ 65536 }
     ensures { result ≡ count_by is_line_feed bytes.now }
 {
-    let feeds = bytes.iter().fold(0u32, |feeds, byte| {
-        feeds.wrapping_add(u32::from(*byte == b'\n'))
+    let mut feeds = 0;
+    let mut at = 0;
+    while bytes.len() - at >= AT_ONCE {
+        feeds += few_line_feeds(&bytes[at..at + AT_ONCE]);
+        at += AT_ONCE;
+    }
+    feeds + few_line_feeds(&bytes[at..])
+}
+
+/// How many line feeds stand in these bytes, which are so few that they are counted in bytes, many
+/// at once.
+#[inline(always)]
+fn few_line_feeds(bytes: &[u8]) -> u64
+    requires { length bytes.now ≤ 128 }
+    ensures { result ≡ count_by is_line_feed bytes.now }
+{
+    let feeds = bytes.iter().fold(0u8, |feeds, byte| {
+        feeds.wrapping_add(u8::from(*byte == b'\n'))
     });
     u64::from(feeds)
 }

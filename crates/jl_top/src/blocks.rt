@@ -1,5 +1,5 @@
 //! Output in blocks: bytes are gathered, and handed on many at once.
-ghost use Rattle.std.specs.Prelude.{◌≡◌, ◌<◌, ◌≤◌, ◌^◌, [], IfOk, length, take, nat_le, vec_len, vec_capacity};
+ghost use Rattle.std.specs.Prelude.{◌≡◌, ◌+◌, ◌<◌, ◌≤◌, ◌^◌, [], IfOk, length, take, nat_le, vec_len, vec_capacity};
 
 use jl_model::NoMemory;
 use std::alloc::Global;
@@ -54,9 +54,24 @@ impl Block {
         ensures within { result ≤ length bytes.now }
         ensures gathers { Gathers self.old self.new (take result bytes.now) }
     {
-        let n = (BLOCK - self.gathered.len()).min(bytes.len());
-        match self.gathered.extend_from_slice(&bytes[..n]) {
-            Ok(()) => n,
+        let room = BLOCK - self.gathered.len();
+        if bytes.len() <= room {
+            self.append(bytes);
+            bytes.len()
+        } else {
+            self.append(&bytes[..room]);
+            room
+        }
+    }
+
+    /// Gathers all the bytes, for which there is room.
+    #[inline(always)]
+    fn append(&mut self, bytes: &[u8])
+        requires { vec_len self.old.gathered + length bytes.now ≤ 65536 }
+        ensures { Gathers self.old self.new bytes.now }
+    {
+        match self.gathered.extend_from_slice(bytes) {
+            Ok(()) => (),
             Err(_) => unreachable!(),
         }
     }

@@ -1,13 +1,19 @@
-use Rattle.std.proofs.Common.{rules, refl, subst, ◌∙◌, ◌≡◌, ◌%◌, ◌^◌}
+use Rattle.std.proofs.Common.{◌≡◌, ◌+◌, ◌-◌, arith, take, drop, subst}
 use Rattle.std.specs.List.{count_by}
-use Rattle.std.proofs.lemmas.Fn.{fold_over, slice_gives, fronts}
 use Rattle.jl_top.specs.Blocks.{is_line_feed}
-use Rattle.jl_top.proofs.LineCounts.{one_more, all_counted}
+use Rattle.jl_top.proofs.LineCounts.{counted_then, counted_rest}
 use Rattle.jl_top.proofs.block_outs.line_feeds.Goals as goal
 
+pub loop-at-preserved : goal.loop-at-preserved
+loop-at-preserved c =
+    let at = c.loop-at.at in
+    let rest = drop at c.args.bytes.now in
+    let size : at + 128 - at ≡ 128 = omega arith in
+    let few : c.few_line_feeds-feeds.result ≡ count_by is_line_feed (take 128 rest) = subst (λ k. c.few_line_feeds-feeds.result ≡ count_by is_line_feed (take k rest)) size c.few_line_feeds-feeds.ensures in
+    record {
+      within = omega (arith, c.loop-at-test.true);
+      counted = omega (arith, c.loop-at.invariant.counted, few, counted_then c.args.bytes.now at 128);
+    }
+
 pub returns : goal.returns
-returns c =
-    let counted = subst (λ bytes. c.fold-feeds.result ≡ count_by is_line_feed bytes % 2 ^ 32) c.iter.ensures.rest
-    (fold_over fronts (λ byte. byte.now) _ (λ bytes feeds. feeds ≡ count_by is_line_feed bytes % 2 ^ 32) _
-    (λ bytes feeds byte more f' e k. (one_more bytes byte.now feeds more e (search rules), search rules)) _ _ _ _ (slice_gives c.iter.result) refl c.fold-feeds.ensures.ran) in
-    c.from.ensures ∙ counted ∙ all_counted c.args.bytes.now c.requires
+returns c = omega (arith, c.loop-at.invariant.counted, c.few_line_feeds.ensures, counted_rest c.args.bytes.now c.loop-at.at)
