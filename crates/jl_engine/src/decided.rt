@@ -22,8 +22,27 @@ use std::alloc::Global;
 
 impl Cursor {
     /// An event where no object is undecided, as one of a leading member or behind those.
-    #[tactic(auto, unfolding(crate::specs::Gathers::gather))]
+    #[inline(never)]
     pub fn decided(
+        &mut self,
+        alloc: Global,
+        context: &Context,
+        leading: bool,
+        event: Event,
+        stack: &mut Stack,
+        quads: &mut Quads,
+    ) -> Result<(), FrameStop>
+        ensures told { OnOk result (gather (spec.decided_step (context_of context.now) leading event self.old).0 quads.old stack.old ≡ Ok (quads.new, stack.new)) }
+        ensures cursor { OnOk result (self.new ≡ (spec.decided_step (context_of context.now) leading event self.old).1) }
+        ensures stops { IfErr result (λ stop. HasCause stop (gather (spec.decided_step (context_of context.now) leading event self.old).0 quads.old stack.old)) }
+    {
+        self.decided_here(alloc, context, leading, event, stack, quads)
+    }
+
+    /// The same, inside the caller: where that knows what the event is, little remains of it.
+    #[tactic(auto, unfolding(crate::specs::Gathers::gather))]
+    #[inline(always)]
+    pub(crate) fn decided_here(
         &mut self,
         alloc: Global,
         context: &Context,

@@ -1,11 +1,8 @@
 //! What tokens tell.
-ghost use Rattle.std.specs.Prelude.{◌≡◌, [], ◌∷◌, ◌++◌, true, IfOk, OnOk, option_to_list};
-ghost use Rattle.jl_engine.specs.TreeEvents.{event_of, events_of};
-ghost use Rattle.jl_engine.specs.declared.events.Event.TheVariants as events;
-ghost use Rattle.jl_token.specs.Lexed.{number_of, token_of};
+ghost use Rattle.std.specs.Prelude.{◌≡◌, [], ◌∷◌, ◌++◌, OnOk};
+ghost use Rattle.jl_engine.specs.TreeEvents.{event_of};
 
 use jl_model::{NoMemory, Scalar, Text, Token};
-use jl_token::{Reading, Sign};
 use std::alloc::Global;
 use std::marker::Model;
 
@@ -32,51 +29,6 @@ impl Event {
             Token::Key { at, name } => Event::Key { at, name },
             Token::Value { at, scalar } => Event::Value { at, scalar },
         }
-    }
-
-    /// The event of the number that was read last, with a copy of its text.
-    pub(crate) fn of_number(alloc: Global, reading: &Reading) -> Result<Event, NoMemory>
-        ensures { IfOk result (λ event. event ∷ [] ≡ events_of (number_of true reading.now)) }
-    {
-        let digits = reading.part.copy(alloc)?;
-        Ok(Event::value(reading.start, Scalar::Number(digits)))
-    }
-
-    /// The event of a sign of the byte at this place, with a copy of the text that was read last: its
-    /// room serves the next token too.
-    #[inline(always)]
-    pub(crate) fn of_sign(
-        alloc: Global,
-        sign: Sign,
-        at: u64,
-        reading: &Reading,
-    ) -> Result<Option<Event>, NoMemory>
-        ensures { IfOk result (λ event. option_to_list event ≡ events_of (token_of sign at reading.now)) }
-    {
-        let start = reading.start;
-        match sign {
-            Sign::Nothing => Ok(None),
-            Sign::OpenObject => Ok(Some(Event::OpensObject { at })),
-            Sign::OpenArray => Ok(Some(Event::OpensArray { at })),
-            Sign::CloseObject | Sign::CloseArray => Ok(Some(Event::Closes)),
-            Sign::Key => {
-                let name = reading.part.copy(alloc)?;
-                Ok(Some(Event::Key { at: start, name }))
-            }
-            Sign::Text => {
-                let text = reading.part.copy(alloc)?;
-                Ok(Some(Event::value(start, Scalar::Str(text))))
-            }
-            Sign::Null => Ok(Some(Event::value(start, Scalar::Null))),
-            Sign::True => Ok(Some(Event::value(start, Scalar::Bool(true)))),
-            Sign::False => Ok(Some(Event::value(start, Scalar::Bool(false)))),
-        }
-    }
-
-    fn value(at: u64, scalar: Scalar) -> Event
-        ensures { result ≡ events.Value at scalar }
-    {
-        Event::Value { at, scalar }
     }
 }
 

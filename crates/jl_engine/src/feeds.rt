@@ -2,6 +2,7 @@
 ghost use Rattle.std.specs.Prelude.{◌≡◌, ◌<◌, ◌≤◌, ◌+◌, ◌-◌, ◌^◌, ℕ, List, [], ◌∷◌, ◌++◌, length, take, min, option_to_list, true, false, Ok, OnOk, OnErr, IfOk, IfErr, IfSome, IsSome, IsErrOf};
 ghost use Rattle.jl_model.specs.Causes as causes;
 ghost use Rattle.jl_model.specs.Parts.{Parts};
+ghost use Rattle.jl_model.specs.declared.scalars.Scalar.TheVariants as scalars;
 ghost use Rattle.jl_defs.specs.Settings.{Settings};
 ghost use Rattle.jl_token.specs.declared.readings.Reading.{Reading};
 ghost use Rattle.jl_token.specs.Lexed.{number_of, token_of, told};
@@ -13,6 +14,7 @@ ghost use Rattle.jl_engine.specs.Stops.{of_lexer};
 ghost use Rattle.jl_engine.specs.Standing.{Stands, Fed, Stopped, Finished, StoppedAtEnd, WerePut};
 ghost use Rattle.jl_engine.specs.Translation.{events_step};
 ghost use Rattle.jl_engine.specs.TreeEvents.{events_of};
+ghost use Rattle.jl_engine.specs.declared.events.Event.TheVariants as events;
 
 use crate::engines::EngineState;
 use crate::events::Event;
@@ -20,7 +22,7 @@ use crate::outs::put_all;
 use crate::stops::Stop;
 use crate::tellings::Quads;
 use jl_frames::FrameStop;
-use jl_model::{NoMemory, QuadOut, Token};
+use jl_model::{NoMemory, QuadOut, Scalar, Token};
 use jl_token::{Sign, Signs};
 use std::alloc::Global;
 
@@ -234,13 +236,13 @@ impl EngineState {
         if !number {
             return Ok(());
         }
-        match Event::of_number(alloc, &self.lexer.state().reading) {
-            Ok(event) => self.tell_event(alloc, event, quads),
-            Err(NoMemory) => Err(FrameStop::NoMemory),
-        }
+        self.tell_digits(alloc, quads)
     }
 
-    /// Tells the facts of the sign of the byte at this place.
+    /// Tells the facts of the sign of the byte at this place. Each kind of them has a function of its
+    /// own, where it is known what the event is.
+    #[tactic(auto, unfolding(crate::specs::Gathers::gather, crate::specs::Translation::events_step))]
+    #[inline(always)]
     fn tell_sign(
         &mut self,
         alloc: Global,
@@ -253,29 +255,140 @@ impl EngineState {
         ensures stops { IfErr result (λ stop. HasCause stop (gather (events_step (context_of self.old.context) (events_of (token_of sign at self.old.lexer.reading)) self.old.cursor).0 quads.old self.old.stack)) }
         ensures kept { self.new ≡ record self.old { cursor = self.new.cursor; stack = self.new.stack } }
     {
-        match Event::of_sign(alloc, sign, at, &self.lexer.state().reading) {
-            Ok(event) => self.tell_some(alloc, event, quads),
+        match sign {
+            Sign::Nothing => Ok(()),
+            Sign::OpenObject => self.tell_object(alloc, at, quads),
+            Sign::OpenArray => self.tell_array(alloc, at, quads),
+            Sign::CloseObject | Sign::CloseArray => self.tell_closing(alloc, quads),
+            Sign::Key => self.tell_name(alloc, quads),
+            Sign::Text => self.tell_string(alloc, quads),
+            Sign::Null => self.tell_scalar(alloc, Scalar::Null, quads),
+            Sign::True => self.tell_scalar(alloc, Scalar::Bool(true), quads),
+            Sign::False => self.tell_scalar(alloc, Scalar::Bool(false), quads),
+        }
+    }
+
+    /// Tells the facts of an object that opens at this place.
+    #[inline(never)]
+    fn tell_object(
+        &mut self,
+        alloc: Global,
+        at: u64,
+        quads: &mut Quads,
+    ) -> Result<(), FrameStop>
+        ensures told { OnOk result (gather (events_step (context_of self.old.context) (events.OpensObject at ∷ []) self.old.cursor).0 quads.old self.old.stack ≡ Ok (quads.new, self.new.stack)) }
+        ensures cursor { OnOk result (self.new.cursor ≡ (events_step (context_of self.old.context) (events.OpensObject at ∷ []) self.old.cursor).1) }
+        ensures stops { IfErr result (λ stop. HasCause stop (gather (events_step (context_of self.old.context) (events.OpensObject at ∷ []) self.old.cursor).0 quads.old self.old.stack)) }
+        ensures kept { self.new ≡ record self.old { cursor = self.new.cursor; stack = self.new.stack } }
+    {
+        self.tell_event(alloc, Event::OpensObject { at }, quads)
+    }
+
+    /// Tells the facts of an array that opens at this place.
+    #[inline(never)]
+    fn tell_array(
+        &mut self,
+        alloc: Global,
+        at: u64,
+        quads: &mut Quads,
+    ) -> Result<(), FrameStop>
+        ensures told { OnOk result (gather (events_step (context_of self.old.context) (events.OpensArray at ∷ []) self.old.cursor).0 quads.old self.old.stack ≡ Ok (quads.new, self.new.stack)) }
+        ensures cursor { OnOk result (self.new.cursor ≡ (events_step (context_of self.old.context) (events.OpensArray at ∷ []) self.old.cursor).1) }
+        ensures stops { IfErr result (λ stop. HasCause stop (gather (events_step (context_of self.old.context) (events.OpensArray at ∷ []) self.old.cursor).0 quads.old self.old.stack)) }
+        ensures kept { self.new ≡ record self.old { cursor = self.new.cursor; stack = self.new.stack } }
+    {
+        self.tell_event(alloc, Event::OpensArray { at }, quads)
+    }
+
+    /// Tells the facts of a container that closes.
+    #[inline(never)]
+    fn tell_closing(
+        &mut self,
+        alloc: Global,
+        quads: &mut Quads,
+    ) -> Result<(), FrameStop>
+        ensures told { OnOk result (gather (events_step (context_of self.old.context) (events.Closes ∷ []) self.old.cursor).0 quads.old self.old.stack ≡ Ok (quads.new, self.new.stack)) }
+        ensures cursor { OnOk result (self.new.cursor ≡ (events_step (context_of self.old.context) (events.Closes ∷ []) self.old.cursor).1) }
+        ensures stops { IfErr result (λ stop. HasCause stop (gather (events_step (context_of self.old.context) (events.Closes ∷ []) self.old.cursor).0 quads.old self.old.stack)) }
+        ensures kept { self.new ≡ record self.old { cursor = self.new.cursor; stack = self.new.stack } }
+    {
+        self.tell_event(alloc, Event::Closes, quads)
+    }
+
+    /// Tells the facts of the key that was read last, with a copy of its name: the room of what was read
+    /// serves the next token too.
+    #[inline(never)]
+    fn tell_name(
+        &mut self,
+        alloc: Global,
+        quads: &mut Quads,
+    ) -> Result<(), FrameStop>
+        ensures told { OnOk result (gather (events_step (context_of self.old.context) (events.Key self.old.lexer.reading.start self.old.lexer.reading.part ∷ []) self.old.cursor).0 quads.old self.old.stack ≡ Ok (quads.new, self.new.stack)) }
+        ensures cursor { OnOk result (self.new.cursor ≡ (events_step (context_of self.old.context) (events.Key self.old.lexer.reading.start self.old.lexer.reading.part ∷ []) self.old.cursor).1) }
+        ensures stops { IfErr result (λ stop. HasCause stop (gather (events_step (context_of self.old.context) (events.Key self.old.lexer.reading.start self.old.lexer.reading.part ∷ []) self.old.cursor).0 quads.old self.old.stack)) }
+        ensures kept { self.new ≡ record self.old { cursor = self.new.cursor; stack = self.new.stack } }
+    {
+        let reading = &self.lexer.state().reading;
+        let at = reading.start;
+        match reading.part.copy(alloc) {
+            Ok(name) => self.tell_event(alloc, Event::Key { at, name }, quads),
             Err(NoMemory) => Err(FrameStop::NoMemory),
         }
     }
 
-    /// Tells the facts of an event, if there is one.
-    #[tactic(auto, unfolding(crate::specs::Gathers::gather, crate::specs::Translation::events_step))]
-    fn tell_some(
+    /// The same for a string.
+    #[inline(never)]
+    fn tell_string(
         &mut self,
         alloc: Global,
-        event: Option<Event>,
         quads: &mut Quads,
     ) -> Result<(), FrameStop>
-        ensures told { OnOk result (gather (events_step (context_of self.old.context) (option_to_list event) self.old.cursor).0 quads.old self.old.stack ≡ Ok (quads.new, self.new.stack)) }
-        ensures cursor { OnOk result (self.new.cursor ≡ (events_step (context_of self.old.context) (option_to_list event) self.old.cursor).1) }
-        ensures stops { IfErr result (λ stop. HasCause stop (gather (events_step (context_of self.old.context) (option_to_list event) self.old.cursor).0 quads.old self.old.stack)) }
+        ensures told { OnOk result (gather (events_step (context_of self.old.context) (events.Value self.old.lexer.reading.start (scalars.Str self.old.lexer.reading.part) ∷ []) self.old.cursor).0 quads.old self.old.stack ≡ Ok (quads.new, self.new.stack)) }
+        ensures cursor { OnOk result (self.new.cursor ≡ (events_step (context_of self.old.context) (events.Value self.old.lexer.reading.start (scalars.Str self.old.lexer.reading.part) ∷ []) self.old.cursor).1) }
+        ensures stops { IfErr result (λ stop. HasCause stop (gather (events_step (context_of self.old.context) (events.Value self.old.lexer.reading.start (scalars.Str self.old.lexer.reading.part) ∷ []) self.old.cursor).0 quads.old self.old.stack)) }
         ensures kept { self.new ≡ record self.old { cursor = self.new.cursor; stack = self.new.stack } }
     {
-        match event {
-            None => Ok(()),
-            Some(event) => self.tell_event(alloc, event, quads),
+        let reading = &self.lexer.state().reading;
+        let at = reading.start;
+        match reading.part.copy(alloc) {
+            Ok(text) => self.tell_event(alloc, Event::Value { at, scalar: Scalar::Str(text) }, quads),
+            Err(NoMemory) => Err(FrameStop::NoMemory),
         }
+    }
+
+    /// The same for a number.
+    #[inline(never)]
+    fn tell_digits(
+        &mut self,
+        alloc: Global,
+        quads: &mut Quads,
+    ) -> Result<(), FrameStop>
+        ensures told { OnOk result (gather (events_step (context_of self.old.context) (events.Value self.old.lexer.reading.start (scalars.Number self.old.lexer.reading.part) ∷ []) self.old.cursor).0 quads.old self.old.stack ≡ Ok (quads.new, self.new.stack)) }
+        ensures cursor { OnOk result (self.new.cursor ≡ (events_step (context_of self.old.context) (events.Value self.old.lexer.reading.start (scalars.Number self.old.lexer.reading.part) ∷ []) self.old.cursor).1) }
+        ensures stops { IfErr result (λ stop. HasCause stop (gather (events_step (context_of self.old.context) (events.Value self.old.lexer.reading.start (scalars.Number self.old.lexer.reading.part) ∷ []) self.old.cursor).0 quads.old self.old.stack)) }
+        ensures kept { self.new ≡ record self.old { cursor = self.new.cursor; stack = self.new.stack } }
+    {
+        match self.lexer.state().reading.part.copy(alloc) {
+            Ok(digits) => self.tell_scalar(alloc, Scalar::Number(digits), quads),
+            Err(NoMemory) => Err(FrameStop::NoMemory),
+        }
+    }
+
+    /// Tells the facts of the scalar that was read last.
+    #[inline(never)]
+    fn tell_scalar(
+        &mut self,
+        alloc: Global,
+        scalar: Scalar,
+        quads: &mut Quads,
+    ) -> Result<(), FrameStop>
+        ensures told { OnOk result (gather (events_step (context_of self.old.context) (events.Value self.old.lexer.reading.start scalar ∷ []) self.old.cursor).0 quads.old self.old.stack ≡ Ok (quads.new, self.new.stack)) }
+        ensures cursor { OnOk result (self.new.cursor ≡ (events_step (context_of self.old.context) (events.Value self.old.lexer.reading.start scalar ∷ []) self.old.cursor).1) }
+        ensures stops { IfErr result (λ stop. HasCause stop (gather (events_step (context_of self.old.context) (events.Value self.old.lexer.reading.start scalar ∷ []) self.old.cursor).0 quads.old self.old.stack)) }
+        ensures kept { self.new ≡ record self.old { cursor = self.new.cursor; stack = self.new.stack } }
+    {
+        let at = self.lexer.state().reading.start;
+        self.tell_event(alloc, Event::Value { at, scalar }, quads)
     }
 
     /// Tells the facts of a token, if there is one.
@@ -299,6 +412,7 @@ impl EngineState {
 
     /// Tells the facts of an event.
     #[tactic(auto, unfolding(crate::specs::Gathers::gather, crate::specs::Translation::events_step))]
+    #[inline(always)]
     fn tell_event(
         &mut self,
         alloc: Global,

@@ -40,7 +40,23 @@ fn put_some<O: QuadOut>(quads: &Quads, out: &mut O) -> Result<(), Stop>
     if let Err(stop) = put_each(first, out) {
         return Err(stop);
     }
-    put_each(others, out)
+    put_others(others, out)
+}
+
+/// Puts the quads behind the first. Nearly always there are none.
+#[inline(always)]
+fn put_others<O: QuadOut>(quads: &[Quad], out: &mut O) -> Result<(), Stop>
+    ensures put { OnOk result (WerePut (O.tells out.old) (O.tells out.new) (O.selects out.old) quads.now) }
+    ensures some { OnErr result (PutSome (O.tells out.old) (O.tells out.new) (O.selects out.old) quads.now) }
+    ensures stop { IfErr result IsOutside }
+    ensures selects { (q : Parts) → O.selects out.new q ≡ O.selects out.old q }
+    ensures cause { HasCause (O.faults out.old) (O.faults out.new) (IsErrOf result Stop.OutFault) }
+    ensures beside { O.beside out.old out.new }
+{
+    if quads.is_empty() {
+        return Ok(());
+    }
+    put_each(quads, out)
 }
 
 fn put_each<O: QuadOut>(quads: &[Quad], out: &mut O) -> Result<(), Stop>

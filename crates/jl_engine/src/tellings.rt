@@ -64,6 +64,14 @@ impl Quads {
             self.first = emits;
             return Ok(());
         }
+        self.add_others(emits)
+    }
+
+    /// The same, where there are others before them. Few bytes bring more than one quad.
+    #[inline(never)]
+    fn add_others(&mut self, emits: Emits) -> Result<(), NoMemory>
+        ensures { OnOk result (self.new ≡ self.old ++ emits) }
+    {
         match emits.into_quad() {
             None => Ok(()),
             Some(quad) => self.push(quad),

@@ -21,6 +21,7 @@ use std::alloc::Global;
 impl Cursor {
     /// An event: the facts that it tells go to the stack.
     #[tactic(auto, unfolding(crate::specs::Translation::event_step))]
+    #[inline(always)]
     pub fn step(
         &mut self,
         alloc: Global,
@@ -34,13 +35,14 @@ impl Cursor {
         ensures stops { IfErr result (λ stop. HasCause stop (gather (spec.event_step (context_of context.now) event self.old).0 quads.old stack.old)) }
     {
         if self.leading.is_none() {
-            return self.decided(alloc, context, false, event, stack, quads);
+            return self.decided_here(alloc, context, false, event, stack, quads);
         }
         self.undecided(alloc, context, event, stack, quads)
     }
 
     /// An event inside an object that isn't decided.
     #[tactic(auto, unfolding(crate::specs::Gathers::gather))]
+    #[inline(never)]
     fn undecided(
         &mut self,
         alloc: Global,
@@ -90,6 +92,7 @@ impl Cursor {
     }
 
     /// The object is decided before the event.
+    #[inline(never)]
     fn decide_then(
         &mut self,
         alloc: Global,

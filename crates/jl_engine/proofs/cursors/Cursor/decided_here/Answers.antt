@@ -1,6 +1,6 @@
 use Rattle.jl_context.specs.Contexts.{context_of}
 use Rattle.jl_engine.proofs.Translating.{value_stops}
-use Rattle.jl_engine.proofs.cursors.Cursor.decided.Goals as goal
+use Rattle.jl_engine.proofs.cursors.Cursor.decided_here.Goals as goal
 
 pub returns-in-Err-clause-stops : goal.returns-in-Err-clause-stops
 returns-in-Err-clause-stops c =
