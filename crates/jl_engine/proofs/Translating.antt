@@ -18,8 +18,8 @@ use Rattle.jl_frames.specs.Streamed.{if_so, not_yet}
 use Rattle.jl_frames.specs.declared.states.FrameStop.{FrameStop}
 use Rattle.jl_frames.specs.declared.states.FrameStop.TheVariants as stop
 use Rattle.jl_frames.specs.declared.states.StackState.{StackState}
-use Rattle.jl_engine.specs.Gathers.{gather, IsRefusedAs}
-use Rattle.jl_engine.specs.Translation.{decided_step, held_steps, reads_key, reads_scalar, key_of_object, frame_of, entered, decides, decides_then, event_step, step_by, leading_step, leading_array, leading_close, leading_scalar}
+use Rattle.jl_engine.specs.Gathers.{gather}
+use Rattle.jl_engine.specs.Translation.{decided_step, held_steps, reads_key, key_of_object, frame_of, entered, decides, decides_then, event_step, step_by, leading_step, leading_array, leading_close, leading_scalar}
 use Rattle.jl_engine.specs.declared.cursors.Cursor.{Cursor}
 use Rattle.jl_engine.specs.declared.cursors.Takes.{Takes}
 use Rattle.jl_engine.specs.declared.cursors.Takes.TheVariants as takes
@@ -28,7 +28,7 @@ use Rattle.jl_engine.specs.declared.leadings.Leading.{Leading}
 use Rattle.jl_engine.specs.declared.leadings.LeadingSpot.{LeadingSpot}
 use Rattle.jl_engine.specs.declared.leadings.LeadingSpot.TheVariants as spots
 use Rattle.jl_engine.specs.declared.events.Event.TheVariants as events
-use Rattle.jl_engine.proofs.Gathering.{gather_refused, gather_on, stops_first, stops_refused}
+use Rattle.jl_engine.proofs.Gathering.{gather_refused, gather_on, stops_first}
 
 -- a late key
 pub late_stops : (late : List Fact) (f : Fault) (facts : List Fact) (quads : List Parts) (s : StackState) → late ≡ refuses f ∷ [] → gather (late ++ facts) quads s ≡ Err f
@@ -68,12 +68,6 @@ held_nothing c es u quads s e = ap (λ xs. gather (held_steps c xs u).0 quads s)
 pub held_nowhere : (c : Context) (es : List Event) (u : Cursor) → es ≡ [] → (held_steps c es u).1 ≡ u
 unfolding held_steps
 held_nowhere c es u e = ap (λ xs. (held_steps c xs u).1) e
-
--- a scalar that is refused
-pub value_stops : (c : Context) (leading : Bool) (e : Event) (at : ℕ) (v : Scalar) (u : Cursor) (quads : List Parts) (s : StackState) (why : FrameStop)
-    → e ≡ events.Value at v → IsRefusedAs why (reads_scalar u.takes c at v) → HasCause why (gather (decided_step c leading e u).0 quads s)
-value_stops c leading e at v u quads s why is h =
-    subst (λ x. HasCause why (gather (decided_step c leading x u).0 quads s)) (sym is) (stops_refused (reads_scalar u.takes c at v) [] quads s why h)
 
 -- an object was decided, and its held events follow
 pub decides_on : (c : Context) (l : Leading) (u at : Cursor) (quads more : List Parts) (s next : StackState)

@@ -67,15 +67,13 @@ impl Cursor {
                 self.read_key(alloc, context, leading, at, name, stack, quads)
             }
             Event::Value { at, scalar } => {
-                match given(alloc, context, self.takes, at, scalar) {
-                    Ok(given) => tell_value(alloc, stack, quads, ValueFact { at, given }),
-                    Err(stop) => Err(stop),
-                }
+                tell_scalar(alloc, context, self.takes, at, scalar, stack, quads)
             }
         }
     }
 
     #[tactic(auto, unfolding(crate::specs::Gathers::gather))]
+    #[inline(always)]
     fn open_object(
         &mut self,
         alloc: Global,
@@ -139,6 +137,7 @@ impl Cursor {
         Ok(())
     }
 
+    #[inline(always)]
     fn read_key(
         &mut self,
         alloc: Global,
@@ -171,6 +170,7 @@ impl Cursor {
 
     /// A key of a decided object, with what it expands to.
     #[tactic(auto, unfolding(crate::specs::Gathers::gather))]
+    #[inline(always)]
     fn read_key_of_object(
         &mut self,
         leading: bool,
@@ -244,43 +244,89 @@ ghost use Rattle.jl_defs.specs.Values as values;
 ghost use Rattle.jl_frames.specs.Facts.{value_fact, valued_fact, type_fact};
 ghost use Rattle.jl_frames.specs.Streamed.{scalar_fact};
 ghost use Rattle.jl_engine.specs.Gathers.{IsRefusedAs};
+ghost use Rattle.jl_model.specs.declared.scalars.Scalar.TheVariants as scalars;
 
-/// What a scalar gives that is read so. A number that is at fault is refused.
-fn given(
+/// Tells what a scalar gives that is read so. A number that is at fault is refused.
+#[inline(always)]
+fn tell_scalar(
     alloc: Global,
     context: &Context,
     takes: Takes,
     at: u64,
     scalar: Scalar,
-) -> Result<Given, FrameStop>
-    ensures given { IfOk result (λ given. spec.reads_scalar takes (context_of context.now) at scalar ≡ value_fact at given) }
-    ensures stops { IfErr result (λ stop. IsRefusedAs stop (spec.reads_scalar takes (context_of context.now) at scalar)) }
+    stack: &mut Stack,
+    quads: &mut Quads,
+) -> Result<(), FrameStop>
+    ensures told { OnOk result (gather (spec.reads_scalar takes (context_of context.now) at scalar ∷ []) quads.old stack.old ≡ Ok (quads.new, stack.new)) }
+    ensures stops { IfErr result (λ stop. HasCause stop (gather (spec.reads_scalar takes (context_of context.now) at scalar ∷ []) quads.old stack.old)) }
 {
     match takes {
-        Takes::Property => given_value(alloc, at, scalar),
-        Takes::Kinds | Takes::KindItem => Ok(given_type(alloc, context, at, scalar)?),
-        _ => Ok(Given::Written(scalar)),
+        Takes::Property => tell_under_property(alloc, at, scalar, stack, quads),
+        Takes::Kinds | Takes::KindItem => tell_type(alloc, context, at, scalar, stack, quads),
+        _ => tell_given(alloc, at, Given::Written(scalar), stack, quads),
     }
 }
 
-/// What a scalar gives under a property. A string keeps its text.
-#[tactic(auto, unfolding(jl_defs::specs::Values::literal_of))]
-fn given_value(alloc: Global, at: u64, scalar: Scalar) -> Result<Given, FrameStop>
-    ensures given { IfOk result (λ given. scalar_fact true at scalar ≡ value_fact at given) }
-    ensures stops { IfErr result (λ stop. IsRefusedAs stop (scalar_fact true at scalar)) }
+/// Tells what a scalar gives under a property. A string keeps its text.
+#[inline(always)]
+fn tell_under_property(
+    alloc: Global,
+    at: u64,
+    scalar: Scalar,
+    stack: &mut Stack,
+    quads: &mut Quads,
+) -> Result<(), FrameStop>
+    ensures told { OnOk result (gather (scalar_fact true at scalar ∷ []) quads.old stack.old ≡ Ok (quads.new, stack.new)) }
+    ensures stops { IfErr result (λ stop. HasCause stop (gather (scalar_fact true at scalar ∷ []) quads.old stack.old)) }
 {
     match scalar {
-        Scalar::Null => Ok(Given::Written(Scalar::Null)),
-        Scalar::Str(text) => {
-            let datatype = Text::from_bytes(alloc, b"http://www.w3.org/2001/XMLSchema#string")?;
-            Ok(Given::Valued(Valued::Literal(Lit {
+        Scalar::Null => tell_given(alloc, at, Given::Written(Scalar::Null), stack, quads),
+        Scalar::Str(text) => tell_text(alloc, at, text, stack, quads),
+        Scalar::Bool(value) => tell_literal(alloc, at, &Scalar::Bool(value), stack, quads),
+        Scalar::Number(token) => tell_literal(alloc, at, &Scalar::Number(token), stack, quads),
+    }
+}
+
+/// Tells the literal of a string.
+#[inline(always)]
+fn tell_text(
+    alloc: Global,
+    at: u64,
+    text: Text,
+    stack: &mut Stack,
+    quads: &mut Quads,
+) -> Result<(), FrameStop>
+    ensures told { OnOk result (gather (scalar_fact true at (scalars.Str text) ∷ []) quads.old stack.old ≡ Ok (quads.new, stack.new)) }
+    ensures stops { IfErr result (λ stop. HasCause stop (gather (scalar_fact true at (scalars.Str text) ∷ []) quads.old stack.old)) }
+{
+    match Text::from_bytes(alloc, b"http://www.w3.org/2001/XMLSchema#string") {
+        Ok(datatype) => {
+            let lit = Lit {
                 text,
                 datatype,
                 language: None,
-            })))
+            };
+            tell_given(alloc, at, Given::Valued(Valued::Literal(lit)), stack, quads)
         }
-        Scalar::Bool(value) => given_literal(alloc, at, &Scalar::Bool(value)),
-        Scalar::Number(token) => given_literal(alloc, at, &Scalar::Number(token)),
+        Err(NoMemory) => Err(FrameStop::NoMemory),
+    }
+}
+
+/// Tells the literal of another scalar under a property.
+#[inline(never)]
+fn tell_literal(
+    alloc: Global,
+    at: u64,
+    scalar: &Scalar,
+    stack: &mut Stack,
+    quads: &mut Quads,
+) -> Result<(), FrameStop>
+    ensures told { OnOk result (gather (valued_fact at (values.literal_of scalar.now None None) ∷ []) quads.old stack.old ≡ Ok (quads.new, stack.new)) }
+    ensures stops { IfErr result (λ stop. HasCause stop (gather (valued_fact at (values.literal_of scalar.now None None) ∷ []) quads.old stack.old)) }
+{
+    match given_literal(alloc, at, scalar) {
+        Ok(given) => tell_given(alloc, at, given, stack, quads),
+        Err(stop) => Err(stop),
     }
 }
 
@@ -297,12 +343,39 @@ fn given_literal(alloc: Global, at: u64, scalar: &Scalar) -> Result<Given, Frame
     }
 }
 
-/// What a scalar gives under `@type`.
-fn given_type(alloc: Global, context: &Context, at: u64, scalar: Scalar) -> Result<Given, NoMemory>
-    ensures { IfOk result (λ given. type_fact (context_of context.now) at scalar ≡ value_fact at given) }
+/// Tells what a scalar gives under `@type`.
+#[inline(always)]
+fn tell_type(
+    alloc: Global,
+    context: &Context,
+    at: u64,
+    scalar: Scalar,
+    stack: &mut Stack,
+    quads: &mut Quads,
+) -> Result<(), FrameStop>
+    ensures told { OnOk result (gather (type_fact (context_of context.now) at scalar ∷ []) quads.old stack.old ≡ Ok (quads.new, stack.new)) }
+    ensures stops { IfErr result (λ stop. HasCause stop (gather (type_fact (context_of context.now) at scalar ∷ []) quads.old stack.old)) }
 {
     match scalar {
-        Scalar::Str(text) => Ok(Given::Type(expand_type(alloc, context, text)?)),
-        _ => Ok(Given::Written(scalar)),
+        Scalar::Str(text) => match expand_type(alloc, context, text) {
+            Ok(expanded) => tell_given(alloc, at, Given::Type(expanded), stack, quads),
+            Err(NoMemory) => Err(FrameStop::NoMemory),
+        },
+        _ => tell_given(alloc, at, Given::Written(scalar), stack, quads),
     }
+}
+
+/// Tells what a scalar at this place gives.
+#[inline(always)]
+fn tell_given(
+    alloc: Global,
+    at: u64,
+    given: Given,
+    stack: &mut Stack,
+    quads: &mut Quads,
+) -> Result<(), FrameStop>
+    ensures told { OnOk result (gather (value_fact at given ∷ []) quads.old stack.old ≡ Ok (quads.new, stack.new)) }
+    ensures stops { IfErr result (λ stop. HasCause stop (gather (value_fact at given ∷ []) quads.old stack.old)) }
+{
+    tell_value(alloc, stack, quads, ValueFact { at, given })
 }

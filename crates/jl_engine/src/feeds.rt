@@ -270,12 +270,7 @@ impl EngineState {
 
     /// Tells the facts of an object that opens at this place.
     #[inline(never)]
-    fn tell_object(
-        &mut self,
-        alloc: Global,
-        at: u64,
-        quads: &mut Quads,
-    ) -> Result<(), FrameStop>
+    fn tell_object(&mut self, alloc: Global, at: u64, quads: &mut Quads) -> Result<(), FrameStop>
         ensures told { OnOk result (gather (events_step (context_of self.old.context) (events.OpensObject at ∷ []) self.old.cursor).0 quads.old self.old.stack ≡ Ok (quads.new, self.new.stack)) }
         ensures cursor { OnOk result (self.new.cursor ≡ (events_step (context_of self.old.context) (events.OpensObject at ∷ []) self.old.cursor).1) }
         ensures stops { IfErr result (λ stop. HasCause stop (gather (events_step (context_of self.old.context) (events.OpensObject at ∷ []) self.old.cursor).0 quads.old self.old.stack)) }
@@ -286,12 +281,7 @@ impl EngineState {
 
     /// Tells the facts of an array that opens at this place.
     #[inline(never)]
-    fn tell_array(
-        &mut self,
-        alloc: Global,
-        at: u64,
-        quads: &mut Quads,
-    ) -> Result<(), FrameStop>
+    fn tell_array(&mut self, alloc: Global, at: u64, quads: &mut Quads) -> Result<(), FrameStop>
         ensures told { OnOk result (gather (events_step (context_of self.old.context) (events.OpensArray at ∷ []) self.old.cursor).0 quads.old self.old.stack ≡ Ok (quads.new, self.new.stack)) }
         ensures cursor { OnOk result (self.new.cursor ≡ (events_step (context_of self.old.context) (events.OpensArray at ∷ []) self.old.cursor).1) }
         ensures stops { IfErr result (λ stop. HasCause stop (gather (events_step (context_of self.old.context) (events.OpensArray at ∷ []) self.old.cursor).0 quads.old self.old.stack)) }
@@ -302,11 +292,7 @@ impl EngineState {
 
     /// Tells the facts of a container that closes.
     #[inline(never)]
-    fn tell_closing(
-        &mut self,
-        alloc: Global,
-        quads: &mut Quads,
-    ) -> Result<(), FrameStop>
+    fn tell_closing(&mut self, alloc: Global, quads: &mut Quads) -> Result<(), FrameStop>
         ensures told { OnOk result (gather (events_step (context_of self.old.context) (events.Closes ∷ []) self.old.cursor).0 quads.old self.old.stack ≡ Ok (quads.new, self.new.stack)) }
         ensures cursor { OnOk result (self.new.cursor ≡ (events_step (context_of self.old.context) (events.Closes ∷ []) self.old.cursor).1) }
         ensures stops { IfErr result (λ stop. HasCause stop (gather (events_step (context_of self.old.context) (events.Closes ∷ []) self.old.cursor).0 quads.old self.old.stack)) }
@@ -318,11 +304,7 @@ impl EngineState {
     /// Tells the facts of the key that was read last, with a copy of its name: the room of what was read
     /// serves the next token too.
     #[inline(never)]
-    fn tell_name(
-        &mut self,
-        alloc: Global,
-        quads: &mut Quads,
-    ) -> Result<(), FrameStop>
+    fn tell_name(&mut self, alloc: Global, quads: &mut Quads) -> Result<(), FrameStop>
         ensures told { OnOk result (gather (events_step (context_of self.old.context) (events.Key self.old.lexer.reading.start self.old.lexer.reading.part ∷ []) self.old.cursor).0 quads.old self.old.stack ≡ Ok (quads.new, self.new.stack)) }
         ensures cursor { OnOk result (self.new.cursor ≡ (events_step (context_of self.old.context) (events.Key self.old.lexer.reading.start self.old.lexer.reading.part ∷ []) self.old.cursor).1) }
         ensures stops { IfErr result (λ stop. HasCause stop (gather (events_step (context_of self.old.context) (events.Key self.old.lexer.reading.start self.old.lexer.reading.part ∷ []) self.old.cursor).0 quads.old self.old.stack)) }
@@ -338,11 +320,7 @@ impl EngineState {
 
     /// The same for a string.
     #[inline(never)]
-    fn tell_string(
-        &mut self,
-        alloc: Global,
-        quads: &mut Quads,
-    ) -> Result<(), FrameStop>
+    fn tell_string(&mut self, alloc: Global, quads: &mut Quads) -> Result<(), FrameStop>
         ensures told { OnOk result (gather (events_step (context_of self.old.context) (events.Value self.old.lexer.reading.start (scalars.Str self.old.lexer.reading.part) ∷ []) self.old.cursor).0 quads.old self.old.stack ≡ Ok (quads.new, self.new.stack)) }
         ensures cursor { OnOk result (self.new.cursor ≡ (events_step (context_of self.old.context) (events.Value self.old.lexer.reading.start (scalars.Str self.old.lexer.reading.part) ∷ []) self.old.cursor).1) }
         ensures stops { IfErr result (λ stop. HasCause stop (gather (events_step (context_of self.old.context) (events.Value self.old.lexer.reading.start (scalars.Str self.old.lexer.reading.part) ∷ []) self.old.cursor).0 quads.old self.old.stack)) }
@@ -351,18 +329,21 @@ impl EngineState {
         let reading = &self.lexer.state().reading;
         let at = reading.start;
         match reading.part.copy(alloc) {
-            Ok(text) => self.tell_event(alloc, Event::Value { at, scalar: Scalar::Str(text) }, quads),
+            Ok(text) => self.tell_event(
+                alloc,
+                Event::Value {
+                    at,
+                    scalar: Scalar::Str(text),
+                },
+                quads,
+            ),
             Err(NoMemory) => Err(FrameStop::NoMemory),
         }
     }
 
     /// The same for a number.
     #[inline(never)]
-    fn tell_digits(
-        &mut self,
-        alloc: Global,
-        quads: &mut Quads,
-    ) -> Result<(), FrameStop>
+    fn tell_digits(&mut self, alloc: Global, quads: &mut Quads) -> Result<(), FrameStop>
         ensures told { OnOk result (gather (events_step (context_of self.old.context) (events.Value self.old.lexer.reading.start (scalars.Number self.old.lexer.reading.part) ∷ []) self.old.cursor).0 quads.old self.old.stack ≡ Ok (quads.new, self.new.stack)) }
         ensures cursor { OnOk result (self.new.cursor ≡ (events_step (context_of self.old.context) (events.Value self.old.lexer.reading.start (scalars.Number self.old.lexer.reading.part) ∷ []) self.old.cursor).1) }
         ensures stops { IfErr result (λ stop. HasCause stop (gather (events_step (context_of self.old.context) (events.Value self.old.lexer.reading.start (scalars.Number self.old.lexer.reading.part) ∷ []) self.old.cursor).0 quads.old self.old.stack)) }

@@ -109,6 +109,7 @@ pub fn tell_frame(stack: &mut Stack, quads: &mut Quads, frame: Frame) -> Result<
 
 /// A key of the innermost object. One of a form that isn't built is refused.
 #[tactic(auto, unfolding(crate::specs::Gathers::gather, jl_frames::specs::Facts::step))]
+#[inline(never)]
 pub fn tell_key(stack: &mut Stack, quads: &mut Quads, key: KeyFact) -> Result<(), FrameStop>
     ensures told { OnOk result (gather (key_facts key.at key.expanded ∷ []) quads.old stack.old ≡ Ok (quads.new, stack.new)) }
     ensures stops { IfErr result (λ stop. HasCause stop (gather (key_facts key.at key.expanded ∷ []) quads.old stack.old)) }
@@ -123,6 +124,7 @@ pub fn tell_key(stack: &mut Stack, quads: &mut Quads, key: KeyFact) -> Result<()
 
 /// A scalar.
 #[tactic(auto, unfolding(crate::specs::Gathers::gather, jl_frames::specs::Facts::step))]
+#[inline(never)]
 pub fn tell_value(
     alloc: Global,
     stack: &mut Stack,

@@ -15,7 +15,7 @@ use crate::names::term_of_node;
 use crate::tellings::{Quads, not_yet};
 use jl_context::Context;
 use jl_frames::{Frame, FrameStop, Role, Stack};
-use jl_model::{Expanded, GraphScope, NoMemory};
+use jl_model::{Expanded, GraphScope, NoMemory, Term};
 use std::alloc::Global;
 
 impl Cursor {
@@ -160,8 +160,19 @@ impl Cursor {
         if valued && json {
             return Err(not_yet(at));
         }
-        let frame = frame_of(alloc, at, name, valued)?;
-        self.enter(frame, Takes::Dropped, stack, quads)
+        match subject_of(alloc, at, name, valued) {
+            Ok(subject) => {
+                let frame = Frame {
+                    at,
+                    role: Role::Object,
+                    subject,
+                    scope: GraphScope::Main,
+                    valued,
+                };
+                self.enter(frame, Takes::Dropped, stack, quads)
+            }
+            Err(NoMemory) => Err(FrameStop::NoMemory),
+        }
     }
 
     /// The events of the leading members.
@@ -186,20 +197,19 @@ impl Cursor {
     }
 }
 
-/// The object that opens at this place, as a value object or as a node with this name.
-fn frame_of(alloc: Global, at: u64, name: Option<Expanded>, valued: bool) -> Result<Frame, NoMemory>
-    ensures { IfOk result (λ frame. frame ≡ frame_by at name valued) }
+/// The term of the object that opens at this place, as a node with this name. A value object has
+/// none.
+#[inline(never)]
+fn subject_of(
+    alloc: Global,
+    at: u64,
+    name: Option<Expanded>,
+    valued: bool,
+) -> Result<Option<Term>, NoMemory>
+    ensures { IfOk result (λ subject. subject ≡ (frame_by at name valued).subject) }
 {
-    let subject = if valued {
-        None
-    } else {
-        term_of_node(alloc, at, name)?
-    };
-    Ok(Frame {
-        at,
-        role: Role::Object,
-        subject,
-        scope: GraphScope::Main,
-        valued,
-    })
+    if valued {
+        return Ok(None);
+    }
+    term_of_node(alloc, at, name)
 }
