@@ -4,6 +4,7 @@
 use Rattle.std.specs.Prelude.{ℕ, Bool, true, false, not, ◌&&◌, ◌||◌, List}
 use Rattle.jl_model.specs.JsonTree.{Tree, scalar, array, object, Members, no_member, member}
 use Rattle.jl_defs.specs.Texts.{Text}
+use Rattle.jl_defs.specs.Trees.{then_members}
 use Rattle.jl_defs.specs.Context.{Context}
 use Rattle.jl_defs.specs.Settings.{Settings, Under, Stand}
 use Rattle.jl_defs.specs.Keys.{key_of, is_kind, is_value, is_leading}
@@ -55,11 +56,6 @@ after_run i first (member a n v rest) =
       | true ↦ member a n v rest
       | false ↦ elim (ends_with i n v) [ true ↦ rest | false ↦ after_run i false rest ]
     ]
-
--- two lists of members, one after the other
-abbrev pub then_members : Members → Members → Members
-then_members no_member ms = ms
-then_members (member a n v rest) ms = member a n v (then_members rest ms)
 
 -- the members of the prelude and of the second run
 abbrev pub before_rest : Settings → Context → Under → Stand → ℕ → Inside → Members → Members
