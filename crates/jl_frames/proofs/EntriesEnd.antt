@@ -33,7 +33,7 @@ marks-end s i under (member a n v rest) es ks b m =
     subst (λ r. Marks (entries_after s i (member a n v rest) es) r) (over-append ks _ (entries s i own_member under rest))
     (marks-end s i under rest _ _ b.1 (marks-after (key_of i.final n) _ _ (form_of (term i.final n) v) (keeps s i.final (property_of n) elsewhere v) under _ _ es ks b.0 m))
 
-plain-append : (ks js : List Key) → ArePlain ks → ArePlain js → ArePlain (ks ++ js)
+pub plain-append : (ks js : List Key) → ArePlain ks → ArePlain js → ArePlain (ks ++ js)
 plain-append [] js p q = q
 plain-append (k ∷ ks) js p q = (p.0, plain-append ks js p.1 q)
 

@@ -1,6 +1,5 @@
 -- What gives nothing says nothing, and neither do the members of an object without properties and types.
 use Rattle.std.proofs.Common.{if◌then◌else◌, ℕ, ◌≡◌, refl, ◌∙◌, ap, Bool, true, false, not, ◌&&◌, ◌||◌, List, [], ◌∷◌, ◌++◌, Option, Some, is_some, Result, Ok, Err}
-use Rattle.std.proofs.lemmas.List.{append-nil}
 use Rattle.jl_model.specs.JsonTree.{Tree, scalar, array, object, Members, no_member, member}
 use Rattle.jl_model.specs.declared.scalars.Scalar.TheVariants.{Null, Bool as boolean, Number, Str}
 use Rattle.jl_model.specs.declared.faults.Fault.{Fault}
@@ -14,14 +13,14 @@ use Rattle.jl_defs.specs.Keys.{Key, id, kind, value, language, direction, index,
 use Rattle.jl_defs.specs.ObjectContexts.{Inside, decide, is_context_name, is_in_prelude, after_context, after_prelude}
 use Rattle.jl_defs.specs.ValueObjects.{first_with}
 use Rattle.jl_defs.specs.Kept.{own_member, has_any, entries_by, if_key, any_key, is_only_language, value_gives, object_gives, decided_keeps, keeps, entries}
-use Rattle.jl_defs.specs.Graphs.{Shape, value_object, list_object, set_object, graph_alone, language_alone, node_object, is_graph_alone, begins_graph, is_graph_by_all, is_graph_by_rest, reads_as_graph, shape_of}
+use Rattle.jl_defs.specs.Graphs.{Shape, value_object, list_object, set_object, graph_alone, language_alone, node_object, is_graph_alone, begins_graph, is_graph_by_all, is_graph_by_rest, is_graph_with, reads_as_graph, shape_of}
 use Rattle.jl_defs.specs.Rest.{own_candidates, ends_run, ends_with, after_run, before_rest, rest_of}
 use Rattle.jl_laws.specs.Spots.{Content, Own, Said}
 use Rattle.jl_laws.specs.Says.{walk, decided_says, object_says, value_at_spot}
 use Rattle.jl_frames.specs.Stage.{BuiltDecided, BuiltType, Built, BuiltMembers, BuiltKey}
 use Rattle.jl_frames.proofs.EntryMarks.{IsPlain, ArePlain}
 use Rattle.jl_frames.proofs.Wheres.{Where, outside, within, under_at, stand_at, head_at, spot_at}
-use Rattle.jl_frames.proofs.EntriesEnd.{plain-end}
+use Rattle.jl_frames.proofs.EntriesEnd.{plain-end, plain-append}
 
 pub plain-no : (test : Key → Bool) (ks : List Key) → ((k : Key) → IsPlain k → test k ≡ false) → ArePlain ks → any_key test ks ≡ false
 plain-no test [] h p = refl
@@ -89,22 +88,26 @@ none-by-rest (outside true) before ks p = by (has_any before)
 none-by-rest (outside false) before ks p = refl
 none-by-rest (within n iri name) before ks p = refl
 
-not-graph-in : (order : Order) (base : Option Text) (library : Library) (c : Context) (w : Where) (at : ℕ) (i : Inside) (ms : Members) →
+not-graph-in : (order : Order) (base : Option Text) (library : Library) (c : Context) (w : Where) (at : ℕ) (i : Inside) (ms : Members) (opened_keys : List Key) →
     (let s : Settings = record { order = order; base = base; library = library } in
-    BuiltMembers s i ms → reads_as_graph s c (under_at w) (stand_at w) at i ms ≡ false)
-not-graph-in Any base library c w at i ms b =
+    BuiltMembers s i ms → ArePlain opened_keys → is_graph_with s c (under_at w) (stand_at w) at i ms opened_keys ≡ false)
+not-graph-in Any base library c w at i ms opened_keys b p =
     let s : Settings = record { order = Any; base = base; library = library } in
-    ap (is_graph_by_all (stand_at w)) (append-nil (entries s i own_member (under_at w) ms)) ∙ none-by-all w _ (plain-end s i (under_at w) ms b)
-not-graph-in Streaming base library c w at i ms b =
+    none-by-all w _ (plain-append (entries s i own_member (under_at w) ms) opened_keys (plain-end s i (under_at w) ms b) p)
+not-graph-in Streaming base library c w at i ms opened_keys b p =
     let s : Settings = record { order = Streaming; base = base; library = library } in
     let cs = own_candidates s c (under_at w) (stand_at w) at ms in
     let its_rest = rest_of s c (under_at w) (stand_at w) at i ms in
     let before = entries s i own_member (under_at w) (before_rest s c (under_at w) (stand_at w) at i ms) in
-    ap (is_graph_by_rest (stand_at w) before) (append-nil (entries s i own_member (under_at w) its_rest))
-    ∙ none-by-rest w before _ (plain-end s i (under_at w) its_rest (built-run s i true _ (built-prelude s i cs _ (built-context s i ms b))))
+    let built = built-run s i true _ (built-prelude s i cs _ (built-context s i ms b)) in
+    none-by-rest w before _ (plain-append (entries s i own_member (under_at w) its_rest) opened_keys (plain-end s i (under_at w) its_rest built) p)
+
+pub not-graph-with : (s : Settings) (c : Context) (w : Where) (at : ℕ) (i : Inside) (ms : Members) (opened_keys : List Key) → BuiltMembers s i ms → ArePlain opened_keys →
+    is_graph_with s c (under_at w) (stand_at w) at i ms opened_keys ≡ false
+not-graph-with s c w at i ms opened_keys b p = not-graph-in s.order s.base s.library c w at i ms opened_keys b p
 
 pub not-graph : (s : Settings) (c : Context) (w : Where) (at : ℕ) (i : Inside) (ms : Members) → BuiltMembers s i ms → reads_as_graph s c (under_at w) (stand_at w) at i ms ≡ false
-not-graph s c w at i ms b = not-graph-in s.order s.base s.library c w at i ms b
+not-graph s c w at i ms b = not-graph-with s c w at i ms [] b tt
 
 -- what an object of the forms that are built is
 abbrev pub shape_by : Bool → Bool → Shape
