@@ -76,13 +76,13 @@ row_14 : bound_of Streaming 84 (in_member 0 (member 1 (codes "@context") (object
 unfolding bound_of
 row_14 = refl
 
--- any: {"@context":{},"@type":[],"@id":"http://a/s","http://a/p":{"http://a/q":|1}}, 14 bytes wait behind 28 of members that decided the object round them
-row_15 : bound_of Any 72 (in_member 0 (member 1 (codes "@context") (object 12 no_member) (member 15 (codes "@type") (array 23 no_item) (member 26 (codes "@id") (scalar 32 (Str (codes "http://a/s"))) no_member))) (14 ∷ 25 ∷ 44 ∷ []) 45 (codes "http://a/p") (in_member 58 no_member [] 59 (codes "http://a/q") unread)) ≡ 514
+-- any: {"@context":{},"@type":[],"@id":"http://a/s","http://a/p":{"http://a/q":|1}}, 14 bytes wait in an object round which another has settled; that one's leading members don't count any more
+row_15 : bound_of Any 72 (in_member 0 (member 1 (codes "@context") (object 12 no_member) (member 15 (codes "@type") (array 23 no_item) (member 26 (codes "@id") (scalar 32 (Str (codes "http://a/s"))) no_member))) (14 ∷ 25 ∷ 44 ∷ []) 45 (codes "http://a/p") (in_member 58 no_member [] 59 (codes "http://a/q") unread)) ≡ 402
 unfolding bound_of
 row_15 = refl
 
--- streaming: {"@context":{"g":{"@id":"http://a/g","@container":["@graph","@id"]}},"g":{"http://a/k":{"http://a/p":|1}}}, the key names the graph, and is in force beside it
-row_16 : bound_of Streaming 101 (in_member 0 (member 1 (codes "@context") (object 12 (member 13 (codes "g") (object 17 (member 18 (codes "@id") (scalar 24 (Str (codes "http://a/g"))) (member 37 (codes "@container") (array 50 (item (scalar 51 (Str (codes "@graph"))) (item (scalar 60 (Str (codes "@id"))) no_item))) no_member))) no_member)) no_member) (68 ∷ []) 69 (codes "g") (in_member 73 no_member [] 74 (codes "http://a/k") (in_member 87 no_member [] 88 (codes "http://a/p") unread))) ≡ 730
+-- streaming: {"@context":{"g":{"@id":"http://a/g","@container":["@graph","@id"]}},"g":{"http://a/k":{"http://a/p":|1}}}, the key names the graph; beside it it is in force at the map, and no more in the object in which a property has been read
+row_16 : bound_of Streaming 101 (in_member 0 (member 1 (codes "@context") (object 12 (member 13 (codes "g") (object 17 (member 18 (codes "@id") (scalar 24 (Str (codes "http://a/g"))) (member 37 (codes "@container") (array 50 (item (scalar 51 (Str (codes "@graph"))) (item (scalar 60 (Str (codes "@id"))) no_item))) no_member))) no_member)) no_member) (68 ∷ []) 69 (codes "g") (in_member 73 no_member [] 74 (codes "http://a/k") (in_member 87 no_member [] 88 (codes "http://a/p") unread))) ≡ 710
 unfolding bound_of
 row_16 = refl
 

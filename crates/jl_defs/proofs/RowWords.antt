@@ -24,7 +24,7 @@ use Rattle.jl_defs.specs.ObjectContexts.{final_context, decide}
 use Rattle.jl_defs.specs.Numbers.{magnitude}
 use Rattle.jl_defs.specs.Canon.{string_text, canon, json_faults}
 use Rattle.jl_defs.specs.Values.{literal_of, value_of}
-use Rattle.jl_defs.specs.Kept.{gives}
+use Rattle.jl_defs.specs.Kept.{keeps}
 use Rattle.jl_defs.specs.Expansion.{expand}
 use Rattle.jl_defs.specs.NodeMap.{term_of_text, node_map}
 use Rattle.jl_defs.specs.Dataset.{link, item_quads, dataset}
@@ -64,7 +64,7 @@ same_faults fs gs = faults_are_among fs gs && faults_are_among gs fs
 
 -- the document has no faults, and its dataset has these lines, as a set
 unfoldable pub says : Settings → Tree → List Text → Bool
-unfolding is_utf8 chars digits encode resolve remove_dot_segments ren is_keyword expand_iri containers_of read_entry same_tree same_definition define define_all whole_change remotes process key_of final_context decide magnitude string_text canon json_faults literal_of value_of gives expand term_of_text node_map link item_quads dataset closing_faults judged value_faults faults
+unfolding is_utf8 chars digits encode resolve remove_dot_segments ren is_keyword expand_iri containers_of read_entry same_tree same_definition define define_all whole_change remotes process key_of final_context decide magnitude string_text canon json_faults literal_of value_of keeps expand term_of_text node_map link item_quads dataset closing_faults judged value_faults faults
 says s t lines = same_faults (faults s t) [] && same_lines (map line (dataset s t)) lines
 
 -- the same in both orders

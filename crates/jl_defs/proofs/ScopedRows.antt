@@ -105,7 +105,7 @@ row_18_any : says (settings Any None []) (object 0 (member 1 (codes "@context") 
 unfolding says
 row_18_any = refl
 
-row_18_streaming : is_refused (settings Streaming None []) (object 0 (member 1 (codes "@context") (object 12 (member 13 (codes "T") (object 17 (member 18 (codes "@id") (scalar 24 (Str (codes "http://a/T"))) (member 37 (codes "@context") (object 48 (member 49 (codes "p") (scalar 53 (Str (codes "http://t/p"))) (member 66 (codes "i") (scalar 70 (Str (codes "@id"))) no_member))) no_member))) (member 78 (codes "i") (scalar 82 (Str (codes "http://a/i"))) no_member))) (member 96 (codes "@id") (scalar 102 (Str (codes "http://a/s"))) (member 115 (codes "@type") (scalar 123 (Str (codes "T"))) (member 127 (codes "p") (object 131 (member 132 (codes "i") (array 136 (item (scalar 137 (Str (codes "x"))) no_item)) (member 142 (codes "http://a/q") (scalar 155 (Str (codes "y"))) no_member))) no_member))))) (fault code.InvalidIdValue 132 ∷ []) ≡ true
+row_18_streaming : is_refused (settings Streaming None []) (object 0 (member 1 (codes "@context") (object 12 (member 13 (codes "T") (object 17 (member 18 (codes "@id") (scalar 24 (Str (codes "http://a/T"))) (member 37 (codes "@context") (object 48 (member 49 (codes "p") (scalar 53 (Str (codes "http://t/p"))) (member 66 (codes "i") (scalar 70 (Str (codes "@id"))) no_member))) no_member))) (member 78 (codes "i") (scalar 82 (Str (codes "http://a/i"))) no_member))) (member 96 (codes "@id") (scalar 102 (Str (codes "http://a/s"))) (member 115 (codes "@type") (scalar 123 (Str (codes "T"))) (member 127 (codes "p") (object 131 (member 132 (codes "i") (array 136 (item (scalar 137 (Str (codes "x"))) no_item)) (member 142 (codes "http://a/q") (scalar 155 (Str (codes "y"))) no_member))) no_member))))) (fault code.InvalidIdValue 132 ∷ fault code.LateIdentifier 132 ∷ []) ≡ true
 unfolding is_refused
 row_18_streaming = refl
 
@@ -136,9 +136,9 @@ row_23 = refl
 
 -- {"@context":{"T":{"@id":"http://a/T","@context":{"i":"@id","q":"http://t/q"}},"p":{"@id":"http://a/p","@context":{"i":"http://x/i"}},"q":"http://a/q"},"@id":"http://a/s","@type":"T","p":{"i":{"@id":"http://a/o"},"q":"x"}}
 -- A lone first key that means `@id` outside counts as single, though the object's own contexts give it another meaning: so
--- the object doesn't go back to the context before, where with all its members known it would.
-row_24 : says (settings Streaming None []) (object 0 (member 1 (codes "@context") (object 12 (member 13 (codes "T") (object 17 (member 18 (codes "@id") (scalar 24 (Str (codes "http://a/T"))) (member 37 (codes "@context") (object 48 (member 49 (codes "i") (scalar 53 (Str (codes "@id"))) (member 59 (codes "q") (scalar 63 (Str (codes "http://t/q"))) no_member))) no_member))) (member 78 (codes "p") (object 82 (member 83 (codes "@id") (scalar 89 (Str (codes "http://a/p"))) (member 102 (codes "@context") (object 113 (member 114 (codes "i") (scalar 118 (Str (codes "http://x/i"))) no_member)) no_member))) (member 133 (codes "q") (scalar 137 (Str (codes "http://a/q"))) no_member)))) (member 151 (codes "@id") (scalar 157 (Str (codes "http://a/s"))) (member 170 (codes "@type") (scalar 178 (Str (codes "T"))) (member 182 (codes "p") (object 186 (member 187 (codes "i") (object 191 (member 192 (codes "@id") (scalar 198 (Str (codes "http://a/o"))) no_member)) (member 212 (codes "q") (scalar 216 (Str (codes "x"))) no_member))) no_member))))) (codes "<http://a/s> <http://www.w3.org/1999/02/22-rdf-syntax-ns#type> <http://a/T> .\n" ∷ codes "<http://a/s> <http://a/p> _:jlb186 .\n" ∷ codes "_:jlb186 <http://x/i> <http://a/o> .\n" ∷ codes "_:jlb186 <http://t/q> \"x\" .\n" ∷ []) ≡ true
-unfolding says
+-- the object doesn't go back to the context before, where with all its members known it would, and the key is late.
+row_24 : is_refused (settings Streaming None []) (object 0 (member 1 (codes "@context") (object 12 (member 13 (codes "T") (object 17 (member 18 (codes "@id") (scalar 24 (Str (codes "http://a/T"))) (member 37 (codes "@context") (object 48 (member 49 (codes "i") (scalar 53 (Str (codes "@id"))) (member 59 (codes "q") (scalar 63 (Str (codes "http://t/q"))) no_member))) no_member))) (member 78 (codes "p") (object 82 (member 83 (codes "@id") (scalar 89 (Str (codes "http://a/p"))) (member 102 (codes "@context") (object 113 (member 114 (codes "i") (scalar 118 (Str (codes "http://x/i"))) no_member)) no_member))) (member 133 (codes "q") (scalar 137 (Str (codes "http://a/q"))) no_member)))) (member 151 (codes "@id") (scalar 157 (Str (codes "http://a/s"))) (member 170 (codes "@type") (scalar 178 (Str (codes "T"))) (member 182 (codes "p") (object 186 (member 187 (codes "i") (object 191 (member 192 (codes "@id") (scalar 198 (Str (codes "http://a/o"))) no_member)) (member 212 (codes "q") (scalar 216 (Str (codes "x"))) no_member))) no_member))))) (fault code.LateIdentifier 187 ∷ []) ≡ true
+unfolding is_refused
 row_24 = refl
 
 row_25 : says (settings Any None []) (object 0 (member 1 (codes "@context") (object 12 (member 13 (codes "T") (object 17 (member 18 (codes "@id") (scalar 24 (Str (codes "http://a/T"))) (member 37 (codes "@context") (object 48 (member 49 (codes "i") (scalar 53 (Str (codes "@id"))) (member 59 (codes "q") (scalar 63 (Str (codes "http://t/q"))) no_member))) no_member))) (member 78 (codes "p") (object 82 (member 83 (codes "@id") (scalar 89 (Str (codes "http://a/p"))) (member 102 (codes "@context") (object 113 (member 114 (codes "i") (scalar 118 (Str (codes "http://x/i"))) no_member)) no_member))) (member 133 (codes "q") (scalar 137 (Str (codes "http://a/q"))) no_member)))) (member 151 (codes "@id") (scalar 157 (Str (codes "http://a/s"))) (member 170 (codes "@type") (scalar 178 (Str (codes "T"))) (member 182 (codes "p") (object 186 (member 187 (codes "i") (object 191 (member 192 (codes "@id") (scalar 198 (Str (codes "http://a/o"))) no_member)) (member 212 (codes "q") (scalar 216 (Str (codes "x"))) no_member))) no_member))))) (codes "<http://a/s> <http://www.w3.org/1999/02/22-rdf-syntax-ns#type> <http://a/T> .\n" ∷ codes "<http://a/s> <http://a/p> _:jlb186 .\n" ∷ codes "_:jlb186 <http://x/i> <http://a/o> .\n" ∷ codes "_:jlb186 <http://a/q> \"x\" .\n" ∷ []) ≡ true

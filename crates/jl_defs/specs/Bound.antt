@@ -16,9 +16,9 @@ use Rattle.jl_defs.specs.Keys.{Key, its_context, graph, included, list, set, rev
 use Rattle.jl_defs.specs.ObjectContexts.{Own, Inside, decide, is_context_name, own_context, type_base}
 use Rattle.jl_defs.specs.Kept.{own_member, Form, json_form, language_form, map_form, plain_form, form_of, nest_inside}
 use Rattle.jl_defs.specs.Maps.{entry_context}
-use Rattle.jl_defs.specs.LateKeys.{rest_of}
+use Rattle.jl_defs.specs.Rest.{own_candidates, rest_of}
 use Rattle.jl_defs.specs.OpenTree.{Open, unread, in_scalar, in_array, in_object, in_key, in_member, whole, stand_in, read_members}
-use Rattle.jl_defs.specs.Settled.{own_candidates, kinds_awaited, decided, decided_by_key, settled, settled_by_key}
+use Rattle.jl_defs.specs.Settled.{kinds_awaited, decided, decided_by_key, settled, settled_by_key}
 use Rattle.jl_defs.specs.Reported.{decide_read}
 use Rattle.jl_defs.specs.Due.{Hang, Spot, free_spot, root_spot, item_spot, NodeSpot, open_entry, node_of, property_spot, entry_spot, listed_spot, set_spot}
 use Rattle.jl_defs.specs.ValueObjects.{is_json}
@@ -147,11 +147,6 @@ tail_bytes n no_tail = 0
 tail_bytes n (key_tail at) = n - at
 tail_bytes n (member_tail at name next) = member_bytes name at n
 
-abbrev pub tail_handed : ℕ → Inside → Tail → ℕ
-tail_handed n i no_tail = 0
-tail_handed n i (key_tail at) = n - at
-tail_handed n i (member_tail at name next) = handed_member i name at n
-
 abbrev pub tail_keys : Tail → ℕ
 tail_keys no_tail = 0
 tail_keys (key_tail at) = 0
@@ -171,9 +166,11 @@ leading_streaming s c under stand at n ms ends t false d = all_lead n ms ends t
 leading_streaming s c under stand at n ms ends t true (Err f) = all_lead n ms ends t
 leading_streaming s c under stand at n ms ends t true (Ok i) = lead_before n ms ends t (rest_of s c under stand at i (with_tail ms t))
 
-abbrev pub leading_any : ℕ → Members → List ℕ → Tail → Result Inside Fault → ℕ
-leading_any n ms ends t (Err f) = 0
-leading_any n ms ends t (Ok i) = handed_bytes i ms ends + tail_handed n i t
+-- in the order any only closed members lead, and none once the object has settled
+abbrev pub leading_any : Bool → Members → List ℕ → Result Inside Fault → ℕ
+leading_any true ms ends d = 0
+leading_any false ms ends (Err f) = 0
+leading_any false ms ends (Ok i) = handed_bytes i ms ends
 
 -- an object is decided, and is settled, by what has been read of it
 abbrev pub decided_with : Settings → Context → Under → Stand → ℕ → Members → Tail → Bool
@@ -196,7 +193,7 @@ abbrev pub leading : Settings → Context → Under → Stand → ℕ → ℕ �
 leading s c under stand at n ms ends t = by s.order
   where
     by : Order → ℕ
-    by Any = leading_any n ms ends t (decide_with s c under stand at ms t)
+    by Any = leading_any (settled_with s c under stand at ms t) ms ends (decide_with s c under stand at ms t)
     by Streaming = leading_streaming s c under stand at n ms ends t (decided_with s c under stand at ms t) (decide_with s c under stand at ms t)
 
 -- the names that hold inside an object: its latest key is the written property from the moment it has been read
@@ -224,17 +221,38 @@ node_in s p m at i ms t = by p.under
     by reverse_property = record { subject = m.subject; scope = m.scope; content = m.scope; pure = false }
     by under = node_of s p at i ms (tail_entry i p.under t)
 
+-- the key of a map's entry is in force in the first object below the map, until a key for a property has been read there
+abbrev pub is_property : Key → Bool
+is_property (property iri) = true
+is_property k = false
+
+abbrev pub has_property : Context → Members → Tail → Bool
+has_property d no_member no_tail = false
+has_property d no_member (key_tail at) = false
+has_property d no_member (member_tail at name next) = is_property (key_of d name)
+has_property d (member a name v rest) t = is_property (key_of d name) || has_property d rest t
+
+abbrev pub entry_key : Context → Members → Tail → Text → Text
+entry_key d ms t key = elim (has_property d ms t) [ true ↦ [] | false ↦ key ]
+
+abbrev pub below_object : Names → Names
+below_object m = record m { key = [] }
+
 abbrev pub names_in : Settings → Spot → Names → ℕ → Members → Tail → Bool → Result Inside Fault → Names
 names_in s p m at ms t false d = written_in m t
 names_in s p m at ms t true (Err f) = written_in m t
 names_in s p m at ms t true (Ok i) =
-    expanded_in i.final (record m { subject = (node_in s p m at i ms t).subject; scope = (node_in s p m at i ms t).scope }) t
+    expanded_in i.final
+    (record m { subject = (node_in s p m at i ms t).subject; scope = (node_in s p m at i ms t).scope; key = entry_key i.final ms t m.key })
+    t
 
 -- what an open value is
 pub data Part : Type 0 where
   value_part : (spot : Spot) → (names : Names) → Part
   -- a container's map
   map_part : (context : Context) → (t : TermDef) → (hang : Hang) → (scope : GraphScope) → (name : Text) → (names : Names) → Part
+  -- a language map
+  language_part : (context : Context) → (names : Names) → Part
   -- a map under `@nest`
   nest_part : (inside : Inside) → (spot : Spot) → (node : NodeSpot) → (name : Text) → (names : Names) → Part
   -- a JSON literal, or the value of `@context`
@@ -245,6 +263,7 @@ pub data Part : Type 0 where
 abbrev pub part_context : Part → Context
 part_context (value_part p m) = p.context
 part_context (map_part d t hang scope name m) = d
+part_context (language_part d m) = d
 part_context (nest_part i p n name m) = i.final
 part_context (literal_part c m) = c
 part_context (silent_part c m) = c
@@ -252,6 +271,7 @@ part_context (silent_part c m) = c
 abbrev pub part_names : Part → Names
 part_names (value_part p m) = m
 part_names (map_part d t hang scope name m) = m
+part_names (language_part d m) = m
 part_names (nest_part i p n name m) = m
 part_names (literal_part c m) = m
 part_names (silent_part c m) = m
@@ -273,7 +293,7 @@ item_part x next = silent x
 -- the value of a property, by its form
 abbrev pub form_part : Form → Inside → Spot → GraphScope → Text → Option TermDef → Names → Part
 form_part json_form i q scope name t m = literal_part i.final m
-form_part language_form i q scope name t m = silent_part i.final m
+form_part language_form i q scope name t m = language_part i.final m
 form_part map_form i q scope name None m = silent_part i.final m
 form_part map_form i q scope name (Some t) m = map_part i.final t q.hang scope name m
 form_part plain_form i q scope name t m = value_part q m
@@ -297,10 +317,10 @@ abbrev pub undecided_part : Context → Text → Names → Part
 undecided_part c name m = elim (is_context_name name) [ true ↦ literal_part c m | false ↦ silent_part c m ]
 
 abbrev pub member_part : Settings → Spot → Names → ℕ → Members → Text → Open → Tail → Bool → Result Inside Fault → Part
-member_part s p m at ms name next t false d = undecided_part p.context name (names_in s p m at ms t false d)
-member_part s p m at ms name next t true (Err f) = undecided_part p.context name (names_in s p m at ms t true (Err f))
+member_part s p m at ms name next t false d = undecided_part p.context name (below_object (names_in s p m at ms t false d))
+member_part s p m at ms name next t true (Err f) = undecided_part p.context name (below_object (names_in s p m at ms t true (Err f)))
 member_part s p m at ms name next t true (Ok i) =
-    key_part (key_of i.final name) i p (node_in s p m at i ms t) name next (names_in s p m at ms t true (Ok i))
+    key_part (key_of i.final name) i p (node_in s p m at i ms t) name next (below_object (names_in s p m at ms t true (Ok i)))
 
 abbrev pub nested_part : Result Inside Code → Spot → NodeSpot → Text → Open → Names → Part → Part
 nested_part (Ok j) p n name next m x = key_part (key_of j.final name) j p n name next (record m { written = name; expanded = property_text (key_of j.final name) })
@@ -313,6 +333,7 @@ entry_part (Err e) d t hang scope name key m = silent_part d (record m { key = k
 -- what a member's value is in a map that is no object
 abbrev pub map_value_part : Settings → Part → Text → Open → Part
 map_value_part s (map_part d t hang scope name m) key next = entry_part (entry_context s d t key) d t hang scope name key m
+map_value_part s (language_part d m) key next = silent_part d (record m { key = key })
 map_value_part s (nest_part i p n name m) key next = nested_part (nest_inside s i name) p n key next m (nest_part i p n name m)
 map_value_part s x key next = silent x
 
@@ -335,6 +356,7 @@ entry_names m (member_tail at name next) = record m { key = name }
 
 abbrev pub names_inside : Settings → Part → Tail → Names
 names_inside s (map_part d u hang scope name m) t = entry_names m t
+names_inside s (language_part d m) t = entry_names m t
 names_inside s (nest_part i p n name m) t = nested_names (nest_inside s i name) m t
 names_inside s x t = part_names x
 

@@ -1,5 +1,5 @@
 -- What the definitions say of a document's bytes.
-use Rattle.std.specs.Prelude.{ℕ, ◌≡◌, ◌==◌, Bool, true, false, not, List, [], ◌∷◌, ◌++◌, length, IsTrue}
+use Rattle.std.specs.Prelude.{ℕ, ◌≡◌, ◌==◌, Bool, true, false, not, List, [], ◌∷◌, ◌++◌, length, drop, Option, Some, None, IsTrue}
 use Rattle.jl_model.specs.JsonTree.{Tree}
 use Rattle.jl_model.specs.JsonText.{Begins}
 use Rattle.jl_model.specs.Parts.{Parts}
@@ -10,7 +10,7 @@ use Rattle.jl_defs.specs.Settings.{Settings}
 use Rattle.jl_defs.specs.Sets.{Has, SameSet}
 use Rattle.jl_defs.specs.Faults.{faults}
 use Rattle.jl_defs.specs.Dataset.{dataset}
-use Rattle.jl_defs.specs.OpenTree.{Open}
+use Rattle.jl_defs.specs.OpenTree.{Open, unread, in_scalar, in_array, in_object, in_key, in_member, whole}
 use Rattle.jl_defs.specs.OpenText.{Opens, ReadsAs}
 use Rattle.jl_defs.specs.Reported.{reported}
 use Rattle.jl_defs.specs.Due.{due}
@@ -67,26 +67,36 @@ abbrev pub is_open_string : List ℕ → Bool
 is_open_string [] = false
 is_open_string (c ∷ cs) = elim (c == 34) [ true ↦ is_open cs | false ↦ false ]
 
--- bytes that became unreadable in a string that is still open, and the same bytes with that string readable so far
-pub record Mends (bytes mended : List ℕ) : Type 0 where
+-- the place of the scalar or of the key that is being read
+abbrev pub string_at : Open → Option ℕ
+string_at unread = None
+string_at (in_scalar at first) = Some at
+string_at (in_array at xs next) = string_at next
+string_at (in_object at ms ends) = None
+string_at (in_key at ms ends a) = Some a
+string_at (in_member at ms ends a name next) = string_at next
+string_at (whole t) = None
+
+-- bytes that became unreadable in a string, which is still open and is read as a key or a scalar: up to the byte that
+-- broke it they open a text, and they break off no string since
+pub record BrokenString (bytes : List ℕ) (o : Open) : Type 0 where
   pub front : List ℕ
-  pub part : List ℕ
-  pub other : List ℕ
-  pub bytes_are : bytes ≡ front ++ part
-  pub mended_are : mended ≡ front ++ other
-  pub same_length : length part ≡ length other
-  pub part_is : IsTrue (is_open_string part)
-  pub other_is : IsTrue (is_open_string other)
-  pub unreadable : Begins 0 bytes → ⊥
-  pub begins : Begins 0 mended
+  pub byte : ℕ
+  pub back : List ℕ
+  pub at : ℕ
+  pub bytes_are : bytes ≡ front ++ byte ∷ back
+  pub opens : Opens front o
+  pub breaks : Begins 0 (front ++ byte ∷ []) → ⊥
+  pub string_is : string_at o ≡ Some at
+  pub still_open : IsTrue (is_open_string (drop at bytes))
 
 -- bytes that begin nothing readable, and aren't in such a string
 abbrev pub Breaks : List ℕ → Type 0
-Breaks bytes = (Begins 0 bytes → ⊥) × ((mended : List ℕ) → Mends bytes mended → ⊥)
+Breaks bytes = (Begins 0 bytes → ⊥) × ((o : Open) → BrokenString bytes o → ⊥)
 
 -- the bound of bytes: in an open string that isn't readable it is as if that were, and at other bytes that aren't
 -- readable it stays
 pub data BoundOf (s : Settings) : List ℕ → ℕ → Type 0 where
   readable : (bytes : List ℕ) → (o : Open) → Opens bytes o → BoundOf s bytes (bound s (length bytes) o)
-  in_string : (bytes mended : List ℕ) → (o : Open) → Mends bytes mended → Opens mended o → BoundOf s bytes (bound s (length bytes) o)
+  in_string : (bytes : List ℕ) → (o : Open) → BrokenString bytes o → BoundOf s bytes (bound s (length bytes) o)
   broken : (front : List ℕ) → (byte k : ℕ) → Breaks (front ++ byte ∷ []) → BoundOf s front k → BoundOf s (front ++ byte ∷ []) k

@@ -14,8 +14,8 @@ use Rattle.jl_defs.specs.Settings.{Settings, Under, no_property, graph_property,
 use Rattle.jl_defs.specs.Keys.{Key, graph, included, list, set, reverse, nest, dropped, other, its_context, property, key_of, is_value, is_list, is_set, is_graph}
 use Rattle.jl_defs.specs.ObjectContexts.{Inside, decide}
 use Rattle.jl_defs.specs.Items.{Naming, by_graph, list_at, Items, NodeEntries, one, given, all_wrapped}
-use Rattle.jl_defs.specs.Kept.{Role, own_member, nested_member, reversed_member, is_admitted, Form, json_form, language_form, map_form, plain_form, form_of, nest_inside, entries}
-use Rattle.jl_defs.specs.Graphs.{is_graph_role}
+use Rattle.jl_defs.specs.Kept.{Role, own_member, nested_member, reversed_member, is_admitted, Form, json_form, language_form, map_form, plain_form, form_of, nest_inside}
+use Rattle.jl_defs.specs.Graphs.{is_graph_with}
 use Rattle.jl_defs.specs.Maps.{Addition, adds_nothing, adds_name, name_or, addition, all_with_addition, entry_stand, entry_context, language_key, language_items}
 use Rattle.jl_defs.specs.Expansion.{in_graph, naming, goes_forward, is_plain_graph, expand, expand_all, with_key, members_say, all_nested}
 use Rattle.jl_defs.specs.NodeMap.{Entry, items_entries, node_entries, graph_of, term_of_node}
@@ -150,7 +150,7 @@ open_entry list under = elim (drops under) [ true ↦ [] | false ↦ list ∷ []
 open_entry k under = k ∷ []
 
 abbrev pub node_of : Settings → Spot → ℕ → Inside → Members → List Key → NodeSpot
-node_of s p at i ms opened = node_by p at (naming i.final ms) p.stand (is_graph_role s.order p.stand (entries s i own_member p.under ms ++ opened))
+node_of s p at i ms opened = node_by p at (naming i.final ms) p.stand (is_graph_with s p.context p.under p.stand at i ms opened)
 
 abbrev pub entries_say : NodeSpot → NodeEntries → List Parts
 entries_say n es = flat_map entry_quads (node_entries n.scope n.subject es)

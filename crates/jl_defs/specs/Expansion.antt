@@ -18,7 +18,7 @@ use Rattle.jl_defs.specs.Values.{value_of}
 use Rattle.jl_defs.specs.ValueObjects.{first_with, expand_type, value_object as value_of_object, unless_refused, json_value}
 use Rattle.jl_defs.specs.Items.{Naming, named, by_object, Item, value_at, list_at, node_at, Items, no_more, NodeEntries, nothing_said, typed, said, holding, including, one, both, given, then_entries, wrapped, all_wrapped, scalar_item}
 use Rattle.jl_defs.specs.Kept.{Role, own_member, nested_member, reversed_member, is_admitted, Form, json_form, language_form, map_form, plain_form, form_of, nest_inside, value_gives, entries, is_list_object}
-use Rattle.jl_defs.specs.Graphs.{Shape, value_object, list_object, set_object, language_alone, graph_alone, node_object, shape_of}
+use Rattle.jl_defs.specs.Graphs.{Shape, value_object, list_object, set_object, language_alone, graph_alone, node_object, reads_as_graph, shape_of}
 use Rattle.jl_defs.specs.Maps.{addition, all_with_addition, entry_stand, entry_context, language_key, language_values}
 
 -- an item of a graph map is wrapped in a graph, unless it is a graph object
@@ -180,7 +180,7 @@ unfoldable mutual
   expand s c under stand (array at xs) = Some (expand_all s c under (inside_of stand) xs)
   expand s c under stand (object at ms) =
       decided_items (decide s c under stand at ms)
-      (λ i. object_items (shape_of s.order stand (entries s i own_member under ms)) under stand i at ms
+      (λ i. object_items (shape_of (reads_as_graph s c under stand at i ms) (entries s i own_member under ms)) under stand i at ms
       (λ _. with_key s i is_list under elsewhere ms)
       (λ _. with_key s i is_set under (inside_of stand) ms)
       (λ _. with_key s i is_graph graph_property elsewhere ms)

@@ -114,6 +114,12 @@ abbrev pub decided_bool : Result Inside Fault → (Inside → Bool) → Bool
 decided_bool (Ok i) answer = answer i
 decided_bool (Err e) answer = false
 
+-- whether a property is kept for its object; one whose contexts are at fault counts as kept, so that the object round
+-- it is closed on its members
+abbrev pub decided_keeps : Result Inside Fault → (Inside → Bool) → Bool
+decided_keeps (Ok i) answer = answer i
+decided_keeps (Err e) answer = true
+
 abbrev pub decided_keys : Result Inside Fault → (Inside → List Key) → List Key
 decided_keys (Ok i) answer = answer i
 decided_keys (Err e) answer = []
@@ -130,30 +136,30 @@ abbrev pub if_key : Bool → List Key → List Key
 if_key true ks = ks
 if_key false ks = []
 
--- the entries that a member puts: what its value gives is asked where it matters
+-- the entries that a member puts: whether its value is kept is asked where it matters
 abbrev pub entries_by : Key → Under → (Unit {0} → Bool) → (Unit {0} → List Key) → (Unit {0} → Bool) → List Key
-entries_by its_context under gives nested reverses = []
-entries_by dropped under gives nested reverses = []
-entries_by other under gives nested reverses = []
-entries_by (property name) under gives nested reverses = if_key (gives tt) (property name ∷ [])
-entries_by nest under gives nested reverses = nest ∷ nested tt
-entries_by reverse under gives nested reverses = if_key (reverses tt) (reverse ∷ [])
-entries_by list under gives nested reverses = if_key (not (drops under)) (list ∷ [])
-entries_by k under gives nested reverses = k ∷ []
+entries_by its_context under keeps nested reverses = []
+entries_by dropped under keeps nested reverses = []
+entries_by other under keeps nested reverses = []
+entries_by (property name) under keeps nested reverses = if_key (keeps tt) (property name ∷ [])
+entries_by nest under keeps nested reverses = nest ∷ nested tt
+entries_by reverse under keeps nested reverses = if_key (reverses tt) (reverse ∷ [])
+entries_by list under keeps nested reverses = if_key (not (drops under)) (list ∷ [])
+entries_by k under keeps nested reverses = k ∷ []
 
--- a property's value gives something
-abbrev pub form_gives : Form → (Unit {0} → Bool) → Bool
-form_gives json_form gives = true
-form_gives language_form gives = true
-form_gives map_form gives = true
-form_gives plain_form gives = gives tt
+-- a property is kept for its value
+abbrev pub form_keeps : Form → (Unit {0} → Bool) → Bool
+form_keeps json_form keeps = true
+form_keeps language_form keeps = true
+form_keeps map_form keeps = true
+form_keeps plain_form keeps = keeps tt
 
 unfoldable mutual
-  -- whether a value gives something, perhaps an empty list
-  pub gives : Settings → Context → Under → Stand → Tree → Bool
-  gives s c under stand (scalar at v) = scalar_gives under v
-  gives s c under stand (array at xs) = true
-  gives s c under stand (object at ms) = decided_bool (decide s c under stand at ms) (λ i. object_gives under i ms (entries s i own_member under ms))
+  -- whether a property is kept for this value: it gives something, perhaps an empty list, or its contexts are at fault
+  pub keeps : Settings → Context → Under → Stand → Tree → Bool
+  keeps s c under stand (scalar at v) = scalar_gives under v
+  keeps s c under stand (array at xs) = true
+  keeps s c under stand (object at ms) = decided_keeps (decide s c under stand at ms) (λ i. object_gives under i ms (entries s i own_member under ms))
 
   -- the keys of the members that put an entry, in their order; those under `@nest` stand behind it
   pub entries : Settings → Inside → Role → Under → Members → List Key
@@ -161,7 +167,7 @@ unfoldable mutual
   entries s i role under (member a n v rest) =
       if_key (is_admitted role (key_of i.final n))
       (entries_by (key_of i.final n) under
-      (λ _. form_gives (form_of (term i.final n) v) (λ _. gives s i.final (property_of n) elsewhere v))
+      (λ _. form_keeps (form_of (term i.final n) v) (λ _. keeps s i.final (property_of n) elsewhere v))
       (λ _. nested_keys (nest_inside s i n) (λ j. nested_entries s j under v))
       (λ _. has_any (reversed_entries s i.final v)))
       ++ entries s i role under rest
@@ -182,6 +188,12 @@ unfoldable mutual
   reversed_entries s c (scalar at v) = []
   reversed_entries s c (array at xs) = []
   reversed_entries s c (object at ms) = decided_keys (decide s c reverse_property elsewhere at ms) (λ i. entries s i reversed_member reverse_property ms)
+
+-- whether a value gives something, perhaps an empty list
+abbrev pub gives : Settings → Context → Under → Stand → Tree → Bool
+gives s c under stand (scalar at v) = scalar_gives under v
+gives s c under stand (array at xs) = true
+gives s c under stand (object at ms) = decided_bool (decide s c under stand at ms) (λ i. object_gives under i ms (entries s i own_member under ms))
 
 -- an object that is a list
 abbrev pub is_list_object : Settings → Context → Under → Stand → Tree → Bool

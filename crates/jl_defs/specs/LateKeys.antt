@@ -1,6 +1,6 @@
 -- The streaming form: which keys come too late (this project's own rules).
 use Rattle.std.specs.Prelude.{ℕ, Bool, true, false, not, ◌&&◌, ◌||◌, List, [], ◌∷◌, ◌++◌}
-use Rattle.jl_model.specs.JsonTree.{Tree, scalar, array, object, Members, no_member, member}
+use Rattle.jl_model.specs.JsonTree.{Tree, Members, no_member, member}
 use Rattle.jl_model.specs.declared.codes.Code.TheVariants as code
 use Rattle.jl_model.specs.declared.faults.Fault.{Fault}
 use Rattle.jl_model.specs.declared.orders.Order.{Order}
@@ -8,10 +8,11 @@ use Rattle.jl_model.specs.declared.orders.Order.TheVariants.{Any, Streaming}
 use Rattle.jl_defs.specs.Texts.{Text}
 use Rattle.jl_defs.specs.Context.{Context}
 use Rattle.jl_defs.specs.Settings.{Settings, Under, Stand}
-use Rattle.jl_defs.specs.Keys.{key_of, is_id, is_kind, is_value, is_leading, is_graph}
-use Rattle.jl_defs.specs.ObjectContexts.{fault, is_context_name, first_context, candidates, after_context, after_prelude, Inside}
+use Rattle.jl_defs.specs.Keys.{key_of, is_id, is_kind, is_value, is_graph}
+use Rattle.jl_defs.specs.ObjectContexts.{fault, is_context_name, is_in_prelude, Inside}
+use Rattle.jl_defs.specs.Rest.{own_candidates, rest_of}
 use Rattle.jl_defs.specs.Kept.{own_member, has_any, entries}
-use Rattle.jl_defs.specs.Graphs.{is_graph_role}
+use Rattle.jl_defs.specs.Graphs.{reads_as_graph}
 
 abbrev pub if_so : Bool → List Fault → List Fault
 if_so true fs = fs
@@ -45,40 +46,11 @@ late_key i name at =
     ++ (if_so (is_id (key_of i.final name)) (fault code.LateIdentifier at ∷ [])
     ++ if_so (is_late_value i name) (fault code.LateValue at ∷ []))
 
-abbrev pub is_scalar : Tree → Bool
-is_scalar (scalar at v) = true
-is_scalar (array at xs) = false
-is_scalar (object at ms) = false
-
--- from its second member on, the second run ends at a key that would have decided the contexts
-abbrev pub would_decide : Inside → Text → Bool
-would_decide i name = is_kind (key_of i.base name) || (i.could_go_back && is_value (key_of i.outside name))
-
-abbrev pub ends_run : Inside → Bool → Text → Bool
-ends_run i first name = not (is_leading (key_of i.final name)) || (not first && would_decide i name)
-
--- a value that is an array or an object ends the run and belongs to it
-abbrev pub ends_with : Inside → Text → Tree → Bool
-ends_with i name v = is_value (key_of i.final name) && not (is_scalar v)
-
--- the members behind the second run
-abbrev pub after_run : Inside → Bool → Members → Members
-after_run i first no_member = no_member
-after_run i first (member a n v rest) =
-    elim (ends_run i first n) [
-      | true ↦ member a n v rest
-      | false ↦ elim (ends_with i n v) [ true ↦ rest | false ↦ after_run i false rest ]
-    ]
-
--- the rest of an object: what stands behind its context, its prelude and its second run
-abbrev pub rest_of : Settings → Context → Under → Stand → ℕ → Inside → Members → Members
-rest_of s c under stand at i ms = after_run i true (after_prelude (candidates s c under stand at (first_context ms)) (after_context ms))
-
 abbrev pub late_keys : Inside → Members → List Fault
 late_keys i no_member = []
 late_keys i (member a n v rest) = late_key i n a ++ late_keys i rest
 
--- behind its `@graph` an object that was read as a graph keeps no member, but where another late code names its key
+-- after its `@graph` an object that is read as a graph keeps no member of its rest, unless another late code names its key
 abbrev pub late_graph : Settings → Inside → Under → ℕ → Text → Tree → List Fault
 late_graph s i under at name v =
     if_so (has_any (entries s i own_member under (member at name v no_member)) && not (any_fault (late_key i name at))) (fault code.LateGraph at ∷ [])
@@ -91,13 +63,25 @@ abbrev pub all_late_graph : Settings → Inside → Under → Members → List F
 all_late_graph s i under no_member = []
 all_late_graph s i under (member a n v rest) = late_graph s i under a n v ++ all_late_graph s i under rest
 
-abbrev pub behind_graph : Inside → Members → Members
-behind_graph i no_member = no_member
-behind_graph i (member a n v rest) = elim (is_graph (key_of i.final n)) [ true ↦ rest | false ↦ behind_graph i rest ]
+abbrev pub after_graph : Inside → Members → Members
+after_graph i no_member = no_member
+after_graph i (member a n v rest) = elim (is_graph (key_of i.final n)) [ true ↦ rest | false ↦ after_graph i rest ]
 
-abbrev pub late_graphs : Settings → Inside → Under → Stand → Members → List Fault
-late_graphs s i under stand ms =
-    if_so (is_graph_role s.order stand (entries s i own_member under ms)) (all_late_graph s i under (behind_graph i ms))
+abbrev pub late_graphs : Settings → Context → Under → Stand → ℕ → Inside → Members → List Fault
+late_graphs s c under stand at i ms =
+    if_so (reads_as_graph s c under stand at i ms) (all_late_graph s i under (after_graph i (rest_of s c under stand at i ms)))
+
+-- a first key that means `@id` outside would have kept the object from going back, had it come alone; where its value
+-- ends the prelude this can't be waited for
+abbrev pub lone_identifier : List Context → Inside → Members → List Fault
+lone_identifier cs i no_member = []
+lone_identifier cs i (member a n v rest) =
+    if_so (i.could_go_back && (is_id (key_of i.outside n) && not (is_in_prelude cs n v))) (fault code.LateIdentifier a ∷ [])
+
+-- the keys that are late by what they mean: a lone identifier, and those of the rest
+abbrev pub late_in : Settings → Context → Under → Stand → ℕ → Inside → Members → List Fault
+late_in s c under stand at i ms =
+    lone_identifier (own_candidates s c under stand at ms) i ms ++ late_keys i (rest_of s c under stand at i ms)
 
 -- the breaches of a decided object
 abbrev pub late_members : Settings → Context → Under → Stand → ℕ → Inside → Members → List Fault
@@ -105,4 +89,4 @@ late_members s c under stand at i ms = by s.order
   where
     by : Order → List Fault
     by Any = []
-    by Streaming = late_keys i (rest_of s c under stand at i ms) ++ late_graphs s i under stand ms
+    by Streaming = late_in s c under stand at i ms ++ late_graphs s c under stand at i ms

@@ -10,6 +10,7 @@ pub mod Process
 pub mod Settings
 pub mod Keys
 pub mod ObjectContexts
+pub mod Rest
 pub mod Numbers
 pub mod Canon
 pub mod Values

@@ -16,6 +16,7 @@ use Rattle.jl_defs.specs.Settings.{Under, drops}
 use Rattle.jl_defs.specs.Keys.{Key, id, kind, value, language, direction, index, graph, list, set, reverse, nest, is_id, is_kind, is_value, is_language, is_direction, is_index, is_graph, is_list, is_set, is_reverse}
 use Rattle.jl_defs.specs.ObjectContexts.{Inside, fault}
 use Rattle.jl_defs.specs.LateKeys.{if_so}
+use Rattle.jl_defs.specs.Canon.{json_faults}
 use Rattle.jl_defs.specs.Values.{Valued, refused}
 use Rattle.jl_defs.specs.ValueObjects.{first_with, is_json, is_json_type, type_iri, type_of_values, value_type, is_null, value_object}
 use Rattle.jl_defs.specs.Items.{Item, value_at, node_at, Items, no_more, more, item_place, kind_of_item}
@@ -201,9 +202,14 @@ abbrev pub typed_closing : Under → Inside → ℕ → Members → List Key →
 typed_closing under i at ms ks v =
     if_so (not (is_null v)) (or_else (language_closing at ks v) (or_else (type_closing i at ms ks) (closing_number under i (value_object i ms) v)))
 
--- a JSON literal has at most a number at fault
+-- the numbers of a JSON literal, which under the input type `@json` were judged as they were read
+abbrev pub closing_numbers : Under → Inside → Option Tree → List Fault
+closing_numbers under i None = []
+closing_numbers under i (Some v) = if_so (not (drops under) && not (is_json i.input)) (json_faults v)
+
+-- a JSON literal has at most numbers at fault
 abbrev pub formed_closing : Bool → Under → Inside → ℕ → Members → List Key → Option Tree → List Fault
-formed_closing true under i at ms ks v = closing_number under i (value_object i ms) v
+formed_closing true under i at ms ks v = closing_numbers under i v
 formed_closing false under i at ms ks v = typed_closing under i at ms ks v
 
 -- step 15: a wrong entry first, then what the value's type asks

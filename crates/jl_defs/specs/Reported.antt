@@ -19,7 +19,7 @@ use Rattle.jl_defs.specs.Items.{Items, no_more, both}
 use Rattle.jl_defs.specs.Kept.{Role, own_member, nested_member, reversed_member, refusal, all_nested_entries, Form, json_form, language_form, map_form, plain_form, form_of, nest_inside}
 use Rattle.jl_defs.specs.Maps.{is_none_key, entry_stand, entry_context, map_kind_of, language_key, language_items}
 use Rattle.jl_defs.specs.Expansion.{is_plain_graph, in_entry, expand_all, map_entries, language_entries}
-use Rattle.jl_defs.specs.LateKeys.{if_so, late_contexts, late_keys, late_graphs, rest_of}
+use Rattle.jl_defs.specs.LateKeys.{if_so, late_contexts, late_in, late_graphs}
 use Rattle.jl_defs.specs.MemberFaults.{Seen, nothing_seen, key_faults, turned_faults, map_item_faults, checked_kind, language_items_faults, language_map_faults}
 use Rattle.jl_defs.specs.Faults.{value_faults, items_faults, members_faults, entries_faults, all_nested_faults, all_judged, decided_faults, unless_refused, turns, if_turned, Place, place, nested_place, see, see_nest, see_nested_in}
 use Rattle.jl_defs.specs.OpenTree.{First, quote, brace, bracket, Open, unread, in_scalar, in_array, in_object, in_key, in_member, whole, first_byte, stand_in, read_members}
@@ -141,13 +141,13 @@ abbrev pub nested_in : Result Inside Code → (Inside → List Fault) → List F
 nested_in (Ok i) answer = answer i
 nested_in (Err e) answer = []
 
--- the keys read too late, in streaming order
+-- the keys read too late by what they mean, in streaming order
 abbrev pub late_read : Settings → Context → Under → Stand → ℕ → Inside → Members → List Fault
 late_read s c under stand at i ms = by s.order
   where
     by : Order → List Fault
     by Any = []
-    by Streaming = late_keys i (rest_of s c under stand at i ms)
+    by Streaming = late_in s c under stand at i ms
 
 abbrev pub own_place : Inside → Under → Stand → Members → Place
 own_place i under stand ms = place own_member under stand (all_with is_kind i.final ms)
@@ -156,18 +156,18 @@ abbrev pub reverse_place : Place
 reverse_place = place reversed_member reverse_property elsewhere []
 
 -- what a decided object gives by its closed members
-abbrev pub closed_reported : Settings → Inside → Place → Members → List Fault
-closed_reported s i p ms = members_faults s i p nothing_seen ms ++ late_graphs_in s.order
+abbrev pub closed_reported : Settings → Context → ℕ → Inside → Place → Members → List Fault
+closed_reported s c at i p ms = members_faults s i p nothing_seen ms ++ late_graphs_in s.order
   where
     late_graphs_in : Order → List Fault
     late_graphs_in Any = []
-    late_graphs_in Streaming = late_graphs s i p.under p.stand ms
+    late_graphs_in Streaming = late_graphs s c p.under p.stand at i ms
 
 -- a decided object between two members
 abbrev pub object_reported : Settings → Context → Under → Stand → ℕ → Members → List Fault
 object_reported s c under stand at ms =
     if_so (decided s c under stand at ms)
-    (decided_faults (decide s c under stand at ms) (λ i. closed_reported s i (own_place i under stand ms) ms ++ late_read s c under stand at i ms)
+    (decided_faults (decide s c under stand at ms) (λ i. closed_reported s c at i (own_place i under stand ms) ms ++ late_read s c under stand at i ms)
     ++ late_contexts s.order ms)
 
 -- a decided map of `@reverse` between two members
@@ -292,7 +292,7 @@ unfoldable mutual
   value_reported s c under stand j (in_member at ms ends a n next) =
       if_so (decided_by_key s c under stand at ms a n next)
       (decided_faults (decide_read s c under stand at ms a n next) (λ i.
-      closed_reported s i (own_place i under stand ms) ms
+      closed_reported s c at i (own_place i under stand ms) ms
       ++ (late_read s c under stand at i (read_members ms a n next)
       ++ member_reported i (own_place i under stand ms) (seen_behind s i (own_place i under stand ms) nothing_seen ms) a n next
       (λ d u w k. value_reported s d u w k next)

@@ -10,8 +10,8 @@ use Rattle.jl_defs.specs.Trees.{member_named}
 use Rattle.jl_defs.specs.Context.{Context, Named, previous}
 use Rattle.jl_defs.specs.Settings.{Settings, Under, Stand, root, entry, graph_entry, elsewhere}
 use Rattle.jl_defs.specs.Keys.{key_of, is_id}
-use Rattle.jl_defs.specs.ObjectContexts.{Inside, decide, first_context, candidates, after_context, after_prelude, leads_in, types_in}
-use Rattle.jl_defs.specs.LateKeys.{rest_of}
+use Rattle.jl_defs.specs.ObjectContexts.{Inside, decide, leads_in, types_in}
+use Rattle.jl_defs.specs.Rest.{own_candidates, past_prelude, rest_of}
 use Rattle.jl_defs.specs.OpenTree.{First, quote, brace, bracket, sign, Open, first_byte, read_members}
 
 abbrev pub is_some_member : Members → Bool
@@ -20,7 +20,7 @@ is_some_member (member a n v rest) = true
 
 -- among closed members the prelude has ended
 abbrev pub has_ended : List Context → Members → Bool
-has_ended cs ms = is_some_member (after_prelude cs (after_context ms))
+has_ended cs ms = is_some_member (past_prelude cs ms)
 
 -- a member ends the prelude: by its key, or once the first byte of its value is known
 abbrev pub ends_by : List Context → Text → Option First → Bool
@@ -34,9 +34,6 @@ ends_by cs name (Some brace) = true
 abbrev pub is_first_context : Members → Text → Bool
 is_first_context no_member name = bytes_eq name (codes "@context")
 is_first_context (member a n v rest) name = false
-
-abbrev pub own_candidates : Settings → Context → Under → Stand → ℕ → Members → List Context
-own_candidates s c under stand at ms = candidates s c under stand at (first_context ms)
 
 abbrev pub ends_prelude : Settings → Context → Under → Stand → ℕ → Members → Text → Option First → Bool
 ends_prelude s c under stand at ms name first =

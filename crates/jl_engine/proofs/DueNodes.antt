@@ -13,12 +13,13 @@ use Rattle.jl_defs.specs.Keys.{Key, key_of, is_kind, is_value}
 use Rattle.jl_defs.specs.ObjectContexts.{Inside, decide}
 use Rattle.jl_defs.specs.ValueObjects.{first_with, all_with, is_json}
 use Rattle.jl_defs.specs.Kept.{own_member, entries}
-use Rattle.jl_defs.specs.Graphs.{is_graph_role}
+use Rattle.jl_defs.specs.Graphs.{is_graph_with}
 use Rattle.jl_defs.specs.MemberFaults.{nothing_seen}
 use Rattle.jl_defs.specs.Faults.{place, members_faults}
 use Rattle.jl_defs.specs.NodeMap.{term_of_node}
 use Rattle.jl_defs.specs.Expansion.{naming}
-use Rattle.jl_defs.specs.Settled.{settled, settles_streaming, has_ended, own_candidates}
+use Rattle.jl_defs.specs.Settled.{settled, settles_streaming, has_ended}
+use Rattle.jl_defs.specs.Rest.{own_candidates}
 use Rattle.jl_defs.specs.Sets.{tally}
 use Rattle.jl_defs.specs.Due as due
 use Rattle.jl_laws.specs.Says.{members_say}
@@ -36,7 +37,7 @@ use Rattle.jl_frames.specs.Stage.{BuiltMembers}
 use Rattle.jl_frames.proofs.Marks.{marks-none}
 use Rattle.jl_frames.proofs.EntryMarks.{ArePlain}
 use Rattle.jl_frames.proofs.EntriesEnd.{plain-end}
-use Rattle.jl_frames.proofs.Silence.{not-graph}
+use Rattle.jl_frames.proofs.Silence.{not-graph-with}
 use Rattle.jl_frames.proofs.Wheres.{Where, node_at, under_at, stand_at, scope_at, head_at}
 use Rattle.jl_frames.proofs.Afters.{node_in, entries_after, parts_after}
 use Rattle.jl_frames.proofs.ObjectRun.{enters-object}
@@ -147,8 +148,8 @@ pub node-of-so : (base : Option Text) (library : Library) (w : Where) (at : ℕ)
     due.node_of (streaming base library) (due_spot (initial base) w) at i ms opened_keys ≡ due.node_spot (term_of_node at (naming i.final ms)) (scope_at w)
 node-of-so base library w at i ms opened_keys b p =
     let s = streaming base library in
-    node-so (initial base) w at (naming i.final ms) (is_graph_role s.order (stand_at w) (entries s i own_member (under_at w) ms ++ opened_keys))
-    (not-graph s.order w (entries s i own_member (under_at w) ms ++ opened_keys) (plain-both (entries s i own_member (under_at w) ms) opened_keys (plain-end s i (under_at w) ms b) p))
+    node-so (initial base) w at (naming i.final ms) (is_graph_with s (initial base) (under_at w) (stand_at w) at i ms opened_keys)
+    (not-graph-with s (initial base) w at i ms opened_keys b p)
 
 pub due-so : (f : Parts → ℕ) (base : Option Text) (library : Library) (w : Where) (at : ℕ) (i : Inside) (ms : Members) (opened_keys : List Key) → BuiltMembers (streaming base library) i ms → ArePlain opened_keys →
     tally f (due.members_due (streaming base library) (due_spot (initial base) w) at i (due.node_of (streaming base library) (due_spot (initial base) w) at i ms opened_keys) ms)

@@ -16,7 +16,8 @@ use Rattle.jl_defs.specs.ObjectContexts.{Own, and_then, at_place, is_context_nam
 use Rattle.jl_defs.specs.ValueObjects.{first_with, all_with, is_json}
 use Rattle.jl_defs.specs.Kept.{own_member, entries}
 use Rattle.jl_defs.specs.LateKeys as late
-use Rattle.jl_defs.specs.LateKeys.{late_keys, late_members, late_contexts, after_run, rest_of}
+use Rattle.jl_defs.specs.LateKeys.{late_keys, lone_identifier, late_in, late_members, late_contexts}
+use Rattle.jl_defs.specs.Rest.{own_candidates, after_run, rest_of}
 use Rattle.jl_defs.specs.MemberFaults.{Seen, nothing_seen, takes_json, all_strings, shape_faults, key_faults, closing_faults}
 use Rattle.jl_defs.specs.Faults.{place, see, decided_faults, value_faults, members_faults}
 use Rattle.jl_laws.proofs.Decided.{streaming}
@@ -126,7 +127,8 @@ fine-object base library under stand at ms b e =
       kind = fine.0;
       built = fine.1;
       faultless = left-nil _ _ inside;
-      timely = left-nil _ _ (left-nil (late_members s c under stand at i ms) _ (right-nil (members_faults s i (place own_member under stand (all_with is_kind c ms)) nothing_seen ms) _ inside));
+      timely = right-nil (lone_identifier (own_candidates s c under stand at ms) i ms) _
+          (left-nil (late_in s c under stand at i ms) _ (left-nil (late_members s c under stand at i ms) _ (right-nil (members_faults s i (place own_member under stand (all_with is_kind c ms)) nothing_seen ms) _ inside)));
       first = first;
     }
   where

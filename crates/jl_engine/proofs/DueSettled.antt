@@ -9,7 +9,8 @@ use Rattle.jl_defs.specs.Keys.{Key, id, kind, value, key_of, is_id, is_kind, is_
 use Rattle.jl_defs.specs.ObjectContexts.{Inside, is_in_prelude, after_prelude}
 use Rattle.jl_defs.specs.ValueObjects.{first_with}
 use Rattle.jl_defs.specs.LateKeys as late
-use Rattle.jl_defs.specs.LateKeys.{late_key, late_keys, is_late_type, ends_run, ends_with, after_run}
+use Rattle.jl_defs.specs.LateKeys.{late_key, late_keys, is_late_type}
+use Rattle.jl_defs.specs.Rest.{would_decide, ends_run, ends_with, after_run}
 use Rattle.jl_defs.specs.Settled.{is_some_member}
 use Rattle.jl_defs.specs.Expansion.{naming, naming_of, id_text}
 use Rattle.jl_defs.specs.Due as due
@@ -51,7 +52,7 @@ run-other c i (member a n v ms) l e = by (is_leading (key_of c n)) refl (λ h. r
 
 run-ended : (c : Context) (i : Inside) (a : ℕ) (n : Text) (w : Tree) (x : Bool) → i.final ≡ c → is_leading (key_of c n) ≡ true → is_some_member (after_run i true (elim x [ true ↦ no_member | false ↦ member a n w no_member ])) ≡ true → ⊥
 run-ended c i a n w true f k e = cc
-run-ended c i a n w false f k e = by (ends_run i true n) (ends_with i n w) (ap (λ d. not (is_leading (key_of d n)) || (not true && late.would_decide i n)) f ∙ ap (λ b. not b || (not true && late.would_decide i n)) k) e
+run-ended c i a n w false f k e = by (ends_run i true n) (ends_with i n w) (ap (λ d. not (is_leading (key_of d n)) || (not true && would_decide i n)) f ∙ ap (λ b. not b || (not true && would_decide i n)) k) e
   where
     by : (x y : Bool) → x ≡ false → is_some_member (elim x [ true ↦ member a n w no_member | false ↦ elim y [ true ↦ no_member | false ↦ no_member ] ]) ≡ true → ⊥
     by true y f e = cc
@@ -101,7 +102,7 @@ timely-behind c i (member a n v ms) rest f l h e = by (is_leading (key_of c n)) 
         next (sym (ap (λ x. not x || has_other c ms) k) ∙ h) (subst (λ z. late_keys i (after_run i true z) ≡ []) (prelude-goes c a n v all true (in-prelude c n v k (l.0 k))) e)
     by false k next =
         late-behind i (member a n v ms) rest
-        (ended (ends_run i true n) (ends_with i n v) (ap (λ d. not (is_leading (key_of d n)) || (not true && late.would_decide i n)) f ∙ ap (λ b. not b || (not true && late.would_decide i n)) k)
+        (ended (ends_run i true n) (ends_with i n v) (ap (λ d. not (is_leading (key_of d n)) || (not true && would_decide i n)) f ∙ ap (λ b. not b || (not true && would_decide i n)) k)
         (subst (λ z. late_keys i (after_run i true z) ≡ []) (prelude-goes c a n v all false (behind-prelude c n v k)) e))
 
 -- no key for the name or the value

@@ -6,7 +6,7 @@ use Rattle.jl_defs.specs.Settings.{Settings, Under, property_of, elsewhere}
 use Rattle.jl_defs.specs.Keys.{Key, id, kind, value, language, direction, index, other, dropped, property, key_of}
 use Rattle.jl_defs.specs.ObjectContexts.{Inside}
 use Rattle.jl_defs.specs.ValueObjects.{expand_type}
-use Rattle.jl_defs.specs.Kept.{Form, json_form, language_form, map_form, plain_form, form_gives, entries_by, if_key, gives}
+use Rattle.jl_defs.specs.Kept.{Form, json_form, language_form, map_form, plain_form, form_keeps, entries_by, if_key, keeps}
 use Rattle.jl_frames.specs.declared.entries.Entries.{Entries}
 use Rattle.jl_frames.specs.declared.keywords.Keyword.TheVariants as keyword
 use Rattle.jl_frames.specs.declared.nodes.Node.{Node}
@@ -63,7 +63,7 @@ after_part i b k v p = p
 
 unfoldable pub entries_after : Settings → Inside → Members → Entries → Entries
 entries_after s i no_member es = es
-entries_after s i (member a n v rest) es = entries_after s i rest (after_entry (key_of i.final n) (gives s i.final (property_of n) elsewhere v) es)
+entries_after s i (member a n v rest) es = entries_after s i rest (after_entry (key_of i.final n) (keeps s i.final (property_of n) elsewhere v) es)
 
 unfoldable pub parts_after : Inside → Bool → Members → ValueParts → ValueParts
 parts_after i b no_member p = p
@@ -83,7 +83,7 @@ by-held name false es ks m = no-entry es ks m
 
 -- the marks go with the entries
 pub marks-after : (k : Key) (B C : Type 0) (fm : Form) (g : Bool) (under : Under) (nested : Unit {0} → List Key) (reverses : Unit {0} → Bool) (es : Entries) (ks : List Key) →
-    BuiltKey k ((fm ≡ plain_form) × B × C) → Marks es ks → Marks (after_entry k g es) (ks ++ (entries_by k under (λ _. form_gives fm (λ _. g)) nested reverses ++ []))
+    BuiltKey k ((fm ≡ plain_form) × B × C) → Marks es ks → Marks (after_entry k g es) (ks ++ (entries_by k under (λ _. form_keeps fm (λ _. g)) nested reverses ++ []))
 marks-after (property name) B C plain_form g under nested reverses es ks b m = by-held name g es ks m
 marks-after (property name) B C json_form g under nested reverses es ks b m = absurd (let no = b.0 in cc)
 marks-after (property name) B C language_form g under nested reverses es ks b m = absurd (let no = b.0 in cc)

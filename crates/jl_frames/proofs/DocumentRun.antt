@@ -11,7 +11,7 @@ use Rattle.jl_defs.specs.Keys.{is_kind, is_value}
 use Rattle.jl_defs.specs.ObjectContexts.{Inside, decide}
 use Rattle.jl_defs.specs.ValueObjects as objects
 use Rattle.jl_defs.specs.ValueObjects.{first_with, all_with, is_json_type, value_type}
-use Rattle.jl_defs.specs.Kept.{own_member, any_key, is_only_language, object_gives, decided_bool, gives, entries}
+use Rattle.jl_defs.specs.Kept.{own_member, any_key, is_only_language, object_gives, decided_keeps, keeps, entries}
 use Rattle.jl_defs.specs.Expansion.{naming}
 use Rattle.jl_defs.specs.Faults.{decided_faults, members_faults, value_faults, place}
 use Rattle.jl_defs.specs.LateKeys.{late_members, late_contexts}
@@ -39,8 +39,8 @@ use Rattle.jl_frames.proofs.Afters.{node_in, entries_after, parts_after}
 use Rattle.jl_frames.proofs.MembersRun.{ValueGoes, MembersGo}
 use Rattle.jl_frames.proofs.EntriesEnd.{marks-end, plain-end, language-end, once-free}
 use Rattle.jl_frames.proofs.PartsEnd.{kept-end}
-use Rattle.jl_frames.proofs.Silence.{plain-shape, valued-same}
-use Rattle.jl_defs.specs.Graphs.{shape_of}
+use Rattle.jl_frames.proofs.Silence.{not-graph, plain-shape, valued-same}
+use Rattle.jl_defs.specs.Graphs.{reads_as_graph, shape_of}
 use Rattle.jl_frames.proofs.ObjectRun.{enters-object, value-literal}
 use Rattle.jl_model.specs.JsonTree.{Trees, no_item, item}
 use Rattle.jl_defs.specs.Context.{initial}
@@ -65,7 +65,7 @@ use Rattle.jl_frames.proofs.ObjectEnds.{ends-by, value-form-fine}
 inside-goes : (f : Parts → ℕ) (s : Settings) (c : Context) (w : Where) (i : Inside) (at : ℕ) (ms : Members) (kinds : List Tree) (k : List Open) (more : List Fact) (L : Content) (S G : Unit {0} → Said) →
     MembersGo f s ms → in_dropped k ≡ false → BuiltType i ms → BuiltMembers s i ms → members_faults s i (place own_member (under_at w) (stand_at w) kinds) nothing_seen ms ≡ [] →
     closing_faults (under_at w) i at ms (entries s i own_member (under_at w) ms) ≡ [] →
-    Goes f (object_says (shape_of s.order (stand_at w) (entries s i own_member (under_at w) ms)) (spot_at c w) i at ms L S G (λ n scope. members_say s i own_member n scope ms))
+    Goes f (object_says (shape_of (reads_as_graph s c (under_at w) (stand_at w) at i ms) (entries s i own_member (under_at w) ms)) (spot_at c w) i at ms L S G (λ n scope. members_say s i own_member n scope ms))
     (enters (object_frame (scope_at w) i at ms) ∷ members_facts s i (scope_at w) ms (closes ∷ more)) w k more (object_gives (under_at w) i ms (entries s i own_member (under_at w) ms))
 inside-goes f s c w i at ms kinds k more L S G go d bt bm e1 e2 =
     let m = opened (object_frame (scope_at w) i at ms) in
@@ -76,7 +76,7 @@ inside-goes f s c w i at ms kinds k more L S G go d bt bm e1 e2 =
     let plain = plain-end s i (under_at w) ms bm in
     let same = valued-same s i (under_at w) ms bm in
     subst (λ x. Goes f (object_says x (spot_at c w) i at ms L S G (λ n scope. members_say s i own_member n scope ms))
-    (enters (object_frame (scope_at w) i at ms) ∷ members_facts s i (scope_at w) ms (closes ∷ more)) w k more (object_gives (under_at w) i ms ks)) (sym (plain-shape s.order w ks plain))
+    (enters (object_frame (scope_at w) i at ms) ∷ members_facts s i (scope_at w) ms (closes ∷ more)) w k more (object_gives (under_at w) i ms ks)) (sym (plain-shape (reads_as_graph s c (under_at w) (stand_at w) at i ms) ks (not-graph s c w at i ms bm) plain))
     (ends-by f s c w i at ms k more L S G (entries_after s i ms no_entries) (parts_after i (is_valued i ms) ms no_parts) ks _ refl bm mk plain (language-end s i (under_at w) ms no_entries bm once)
     (λ v. value-ends (under_at w) i ms ks (entries_after s i ms no_entries) at (parts_after i (is_valued i ms) ms no_parts) mk plain v (bt (same ∙ v)).0 (bt (same ∙ v)).1
     (subst (λ b. Kept i ms (parts_after i b ms no_parts)) (sym (same ∙ v)) (kept-end s i ms once)) e2)
@@ -92,9 +92,9 @@ decided-goes : (f : Parts → ℕ) (s : Settings) (c : Context) (w : Where) (at 
     (L : Inside → Content) (S G : Inside → Unit {0} → Said) → MembersGo f s ms → in_dropped k ≡ false → BuiltDecided r (λ i. BuiltType i ms × BuiltMembers s i ms) →
     (decided_faults r (λ i. members_faults s i (place own_member (under_at w) (stand_at w) (all_with is_kind i.final ms)) nothing_seen ms
     ++ (late i ++ closing_faults (under_at w) i at ms (entries s i own_member (under_at w) ms))) ++ contexts) ≡ [] →
-    Goes f (decided_says (head_at w) r (λ i. object_says (shape_of s.order (stand_at w) (entries s i own_member (under_at w) ms)) (spot_at c w) i at ms (L i) (S i) (G i) (λ n scope. members_say s i own_member n scope ms)))
+    Goes f (decided_says (head_at w) r (λ i. object_says (shape_of (reads_as_graph s c (under_at w) (stand_at w) at i ms) (entries s i own_member (under_at w) ms)) (spot_at c w) i at ms (L i) (S i) (G i) (λ n scope. members_say s i own_member n scope ms)))
     (decided_facts r more (λ i. enters (object_frame (scope_at w) i at ms) ∷ members_facts s i (scope_at w) ms (closes ∷ more))) w k more
-    (decided_bool r (λ i. object_gives (under_at w) i ms (entries s i own_member (under_at w) ms)))
+    (decided_keeps r (λ i. object_gives (under_at w) i ms (entries s i own_member (under_at w) ms)))
 decided-goes f s c w at ms (Err x) late contexts k more L S G go d b e = absurd cc
 decided-goes f s c w at ms (Ok i) late contexts k more L S G go d b e =
     let here = left-nil _ contexts e in
@@ -102,7 +102,7 @@ decided-goes f s c w at ms (Ok i) late contexts k more L S G go d b e =
     (right-nil (late i) _ (right-nil (members_faults s i (place own_member (under_at w) (stand_at w) (all_with is_kind i.final ms)) nothing_seen ms) _ here))
 
 pub object-goes : (f : Parts → ℕ) (s : Settings) (at : ℕ) (ms : Members) → MembersGo f s ms → ValueGoes f s (object at ms)
-unfolding walk value_facts gives Built value_faults
+unfolding walk value_facts keeps Built value_faults
 object-goes f s at ms go c w k more d l b e =
     decided-goes f s c w at ms (decide s c (under_at w) (stand_at w) at ms) (λ i. late_members s c (under_at w) (stand_at w) at i ms) (late_contexts s.order ms) k more _ _ _ go d b e
 
@@ -157,7 +157,7 @@ still-held n iri name true = refl
 still-held n iri name false = refl
 
 array-goes : (f : Parts → ℕ) (s : Settings) (at : ℕ) (xs : Trees) → ItemsGo f s xs → ValueGoes f s (array at xs)
-unfolding walk value_facts gives Built value_faults
+unfolding walk value_facts keeps Built value_faults
 array-goes f s at xs ig c (outside true) k more d l b e =
     let r = ig c (outside false) k (closes ∷ more) (λ g. refl) refl l b e in
     record { leads = leads-as f _ _ _ _ _ _ (omega arith) (leads-trans f 0 _ _ _ more _ _ _ (enters-array f (outside true) at k _ d) (leads-trans f _ 0 _ (closes ∷ more) more _ _ _ r.0 (closes-array f None k more))); head = r.1 }
@@ -169,7 +169,7 @@ array-goes f s at xs ig c (within n iri name) k more d l b e =
     record { leads = leads-as f _ _ _ _ _ _ (omega arith) (leads-trans f 0 _ _ _ more _ _ _ (enters-array f (within n iri name) at k _ d) (leads-trans f _ 0 _ (closes ∷ more) more _ _ _ r.0 (closes-array f (node_at (held_by true (within n iri name))) k more))); head = r.1 }
 
 scalar-value : (f : Parts → ℕ) (s : Settings) (at : ℕ) (v : Scalar) → ValueGoes f s (scalar at v)
-unfolding walk value_facts gives value_faults
+unfolding walk value_facts keeps value_faults
 scalar-value f s at v c w k more d l b e = scalar-goes f s c w at v k more d e
 
 items-none : (f : Parts → ℕ) (s : Settings) → ItemsGo f s no_item

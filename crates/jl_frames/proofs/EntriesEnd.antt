@@ -9,7 +9,7 @@ use Rattle.jl_defs.specs.Settings.{Settings, Under, property_of, Stand, elsewher
 use Rattle.jl_defs.specs.Keys.{Key, id, kind, value, language, direction, index, other, dropped, property, key_of, is_kind, is_value, is_language}
 use Rattle.jl_defs.specs.ObjectContexts.{Inside}
 use Rattle.jl_defs.specs.ValueObjects.{first_with, is_json}
-use Rattle.jl_defs.specs.Kept.{own_member, form_of, form_gives, entries_by, if_key, any_key, gives, entries, nested_keys, nest_inside, nested_entries, has_any, reversed_entries}
+use Rattle.jl_defs.specs.Kept.{own_member, form_of, form_keeps, entries_by, if_key, any_key, keeps, entries, nested_keys, nest_inside, nested_entries, has_any, reversed_entries}
 use Rattle.jl_defs.specs.LateKeys.{if_so}
 use Rattle.jl_defs.specs.MemberFaults.{Seen, key_faults, shape_faults, takes_json, type_faults, value_faults as scalar_faults}
 use Rattle.jl_defs.specs.Faults.{place, see, members_faults}
@@ -31,9 +31,9 @@ unfolding entries entries_after BuiltMembers
 marks-end s i under no_member es ks b m = subst (λ r. Marks es r) (sym (append-nil ks)) m
 marks-end s i under (member a n v rest) es ks b m =
     subst (λ r. Marks (entries_after s i (member a n v rest) es) r) (over-append ks _ (entries s i own_member under rest))
-    (marks-end s i under rest _ _ b.1 (marks-after (key_of i.final n) _ _ (form_of (term i.final n) v) (gives s i.final (property_of n) elsewhere v) under _ _ es ks b.0 m))
+    (marks-end s i under rest _ _ b.1 (marks-after (key_of i.final n) _ _ (form_of (term i.final n) v) (keeps s i.final (property_of n) elsewhere v) under _ _ es ks b.0 m))
 
-plain-append : (ks js : List Key) → ArePlain ks → ArePlain js → ArePlain (ks ++ js)
+pub plain-append : (ks js : List Key) → ArePlain ks → ArePlain js → ArePlain (ks ++ js)
 plain-append [] js p q = q
 plain-append (k ∷ ks) js p q = (p.0, plain-append ks js p.1 q)
 
@@ -72,7 +72,7 @@ Once s i (member a n v rest) es =
     (is_value (key_of i.final n) ≡ true → (es.value ≡ false) × IsScalar (Some v))
     × (is_language (key_of i.final n) ≡ true → es.language ≡ false)
     × (is_kind (key_of i.final n) ≡ true → IsType v)
-    × Once s i rest (after_entry (key_of i.final n) (gives s i.final (property_of n) elsewhere v) es)
+    × Once s i rest (after_entry (key_of i.final n) (keeps s i.final (property_of n) elsewhere v) es)
 
 if-nil : (b : Bool) (f : Fault) → if_so b (f ∷ []) ≡ [] → b ≡ false
 if-nil true f e = absurd cc
@@ -116,7 +116,7 @@ once-free s i under stand kinds seen (member a n v rest) es b j m e =
       language-once (key_of i.final n) under seen a es m keys,
       kind-once (key_of i.final n) (takes_json s.order i seen kinds) a v shape,
       once-free s i under stand kinds (see s i own_member under seen a n v) rest _ b.1 (value-rest _ (is_value (key_of i.final n)) v (first_with is_value i.final rest) j)
-          (marks-after (key_of i.final n) _ _ (form_of (term i.final n) v) (gives s i.final (property_of n) elsewhere v) under _ _ es seen.entries b.0 m)
+          (marks-after (key_of i.final n) _ _ (form_of (term i.final n) v) (keeps s i.final (property_of n) elsewhere v) under _ _ es seen.entries b.0 m)
           (right-nil _ _ e),
     )
 
@@ -176,7 +176,7 @@ no-language k B under g nested reverses b e = absurd b
 -- the entries that a member puts
 abbrev pub member_entries : Settings → Inside → Under → Text → Tree → List Key
 member_entries s i under n v =
-    entries_by (key_of i.final n) under (λ _. form_gives (form_of (term i.final n) v) (λ _. gives s i.final (property_of n) elsewhere v))
+    entries_by (key_of i.final n) under (λ _. form_keeps (form_of (term i.final n) v) (λ _. keeps s i.final (property_of n) elsewhere v))
     (λ _. nested_keys (nest_inside s i n) (λ j. nested_entries s j under v)) (λ _. has_any (reversed_entries s i.final v))
 
 language-none : (s : Settings) (i : Inside) (under : Under) (ms : Members) (es : Entries) → BuiltMembers s i ms → Once s i ms es → es.language ≡ true → any_key is_language (entries s i own_member under ms) ≡ false
@@ -184,7 +184,7 @@ unfolding Once BuiltMembers entries
 language-none s i under no_member es b o e = refl
 language-none s i under (member a n v rest) es b o e =
     any-over (member_entries s i under n v) (entries s i own_member under rest) (no-language (key_of i.final n) _ under _ _ _ b.0 (no-more (is_language (key_of i.final n)) es o.1 e))
-    (language-none s i under rest _ b.1 o.3 (language-kept (key_of i.final n) (gives s i.final (property_of n) elsewhere v) es e))
+    (language-none s i under rest _ b.1 o.3 (language-kept (key_of i.final n) (keeps s i.final (property_of n) elsewhere v) es e))
 
 one-if : (name : Text) (g : Bool) (js : List Key) → OneLanguage js → OneLanguage (if_key g (property name ∷ []) ++ js)
 one-if name true js o = (tt, o)
@@ -208,5 +208,5 @@ unfolding Once BuiltMembers entries
 language-end s i under no_member es b o = tt
 language-end s i under (member a n v rest) es b o =
     one-key (key_of i.final n) _ under _ _ _ (entries s i own_member under rest) b.0
-    (λ t. language-none s i under rest _ b.1 o.3 (language-mark (key_of i.final n) (gives s i.final (property_of n) elsewhere v) es ∙ ap (λ x. x || es.language) t))
+    (λ t. language-none s i under rest _ b.1 o.3 (language-mark (key_of i.final n) (keeps s i.final (property_of n) elsewhere v) es ∙ ap (λ x. x || es.language) t))
     (language-end s i under rest _ b.1 o.3)

@@ -1,16 +1,17 @@
 -- The late keys of an object in streaming order, member by member.
 use Rattle.std.proofs.Common.{ℕ, ◌≡◌, refl, ◌∙◌, ap, Bool, true, false, not, ◌&&◌, ◌||◌, List, [], ◌∷◌, ◌++◌, Option, None}
-use Rattle.jl_model.specs.JsonTree.{Tree, scalar, array, object, Trees, no_item, item, Members, member}
+use Rattle.jl_model.specs.JsonTree.{Tree, scalar, array, object, Trees, no_item, item, Members, no_member, member}
 use Rattle.jl_model.specs.declared.scalars.Scalar.TheVariants.{Str}
 use Rattle.jl_model.specs.declared.codes.Code.TheVariants as code
 use Rattle.jl_model.specs.declared.faults.Fault.{Fault}
 use Rattle.jl_defs.specs.Texts.{Text}
-use Rattle.jl_defs.specs.Context.{initial}
+use Rattle.jl_defs.specs.Context.{Context, initial}
 use Rattle.jl_defs.specs.Process.{Library}
 use Rattle.jl_defs.specs.Settings.{Under, Stand}
 use Rattle.jl_defs.specs.Keys.{Key, id, kind, value, language, direction, index, key_of, is_id, is_kind, is_value, is_leading}
 use Rattle.jl_defs.specs.ObjectContexts.{fault, Look, first_context, candidates, is_in_prelude, after_prelude, after_context}
-use Rattle.jl_defs.specs.LateKeys.{if_so, late_key, late_keys, ends_with, after_run, rest_of}
+use Rattle.jl_defs.specs.LateKeys.{if_so, late_key, late_keys, lone_identifier, late_in}
+use Rattle.jl_defs.specs.Rest.{own_candidates, ends_with, after_run, rest_of}
 use Rattle.jl_defs.specs.MemberFaults.{shape_faults, all_strings}
 use Rattle.jl_frames.specs.Streamed.{leads_by, leads}
 use Rattle.jl_frames.proofs.OneContext.{streaming, looked, candidates-same, context-behind}
@@ -36,13 +37,20 @@ late-by k at = refl
 pub late-so : (b : Option Text) (stand : Stand) (looks : List Look) (n : Text) (a : ℕ) → late_key (looked b stand looks) n a ≡ late_of (key_of (initial b) n) a
 late-so b stand looks n a = late-by (key_of (initial b) n) a
 
+-- no identifier is a lone one: there is no context to go back to
+lone-none : (b : Option Text) (cs : List Context) (stand : Stand) (looks : List Look) (ms : Members) → lone_identifier cs (looked b stand looks) ms ≡ []
+lone-none b cs stand looks no_member = refl
+lone-none b cs stand looks (member a n v rest) = refl
+
 -- all late keys of the object
 pub lates-so : (b : Option Text) (l : Library) (under : Under) (stand : Stand) (looks : List Look) (at : ℕ) (ms : Members) → first_context ms ≡ None →
-    late_keys (looked b stand looks) (rest_of (streaming b l) (initial b) under stand at (looked b stand looks) ms) ≡ lates b stand looks true ms
+    late_in (streaming b l) (initial b) under stand at (looked b stand looks) ms ≡ lates b stand looks true ms
 lates-so b l under stand looks at ms e =
-    ap (λ o. late_keys (looked b stand looks) (after_run (looked b stand looks) true (after_prelude (candidates (streaming b l) (initial b) under stand at o) (after_context ms)))) e
-    ∙ (ap (λ cs. late_keys (looked b stand looks) (after_run (looked b stand looks) true (after_prelude cs (after_context ms)))) (candidates-same b l under stand at)
-    ∙ ap (λ m. late_keys (looked b stand looks) (after_run (looked b stand looks) true (after_prelude (initial b ∷ []) m))) (context-behind ms e))
+    let i = looked b stand looks in
+    ap (λ x. x ++ late_keys i (rest_of (streaming b l) (initial b) under stand at i ms)) (lone-none b (own_candidates (streaming b l) (initial b) under stand at ms) stand looks ms)
+    ∙ (ap (λ o. late_keys i (after_run i true (after_prelude (candidates (streaming b l) (initial b) under stand at o) (after_context ms)))) e
+    ∙ (ap (λ cs. late_keys i (after_run i true (after_prelude cs (after_context ms)))) (candidates-same b l under stand at)
+    ∙ ap (λ m. late_keys i (after_run i true (after_prelude (initial b ∷ []) m))) (context-behind ms e)))
 
 and-left : (x y : Bool) → (x && y) ≡ true → x ≡ true
 and-left true y e = refl

@@ -12,7 +12,7 @@ use Rattle.jl_defs.specs.Keys.{Key, property, key_by, key_of, is_value}
 use Rattle.jl_defs.specs.IriExpansion.{expand_iri}
 use Rattle.jl_defs.specs.ObjectContexts.{Inside}
 use Rattle.jl_defs.specs.ValueObjects.{first_with, is_json, is_json_type, type_of_values}
-use Rattle.jl_defs.specs.Kept.{own_member, Form, plain_form, form_of, gives, entries}
+use Rattle.jl_defs.specs.Kept.{own_member, Form, plain_form, form_of, keeps, entries}
 use Rattle.jl_defs.specs.Expansion.{is_plain_graph, goes_forward}
 use Rattle.jl_defs.specs.MemberFaults.{Seen, key_faults, shape_faults, takes_json}
 use Rattle.jl_defs.specs.Faults as faults
@@ -44,7 +44,7 @@ use Rattle.jl_frames.proofs.KeywordsRun.{member-goes}
 abbrev pub ValueGoes : (Parts → ℕ) → Settings → Tree → Type 0
 ValueGoes f s t = (c : Context) (w : Where) (k : List Open) (more : List Fact) → in_dropped k ≡ false → lists (term_under c (under_at w)) ≡ false →
     Built s c (under_at w) (stand_at w) t → value_faults s c (under_at w) (stand_at w) t ≡ [] →
-    Goes f (walk s (spot_at c w) t) (value_facts s c (under_at w) (stand_at w) (scope_at w) t more) w k more (gives s c (under_at w) (stand_at w) t)
+    Goes f (walk s (spot_at c w) t) (value_facts s c (under_at w) (stand_at w) (scope_at w) t more) w k more (keeps s c (under_at w) (stand_at w) t)
 
 -- the facts of members in an open node
 abbrev pub MembersGo : (Parts → ℕ) → Settings → Members → Type 0
@@ -118,7 +118,7 @@ property-goes : (f : Parts → ℕ) (s : Settings) (v : Tree) (c : Context) (nam
     Leads f (tally f (formed (by_form (form_of (term c name) v) (term c name) json languages mapped (λ _. contained_says (term c name) is_list is_given (property_head own_member (term c name) iri m.subject m.scope) its_list
     (λ around. (walk s (spot c (property_of name) around linked (property_head own_member (term c name) iri m.subject m.scope)) v).0)))))
     (value_facts s c (property_of name) elsewhere m.scope v more) (state (Some (record (node_in m es p) { pending = pending.Property iri })) (opens.Object o ∷ k)) more
-    (state (Some (node_in m (held (gives s c (property_of name) elsewhere v) es) p)) (opens.Object o ∷ k))
+    (state (Some (node_in m (held (keeps s c (property_of name) elsewhere v) es) p)) (opens.Object o ∷ k))
 property-goes f s v c name iri m es p o k more json languages mapped is_list is_given its_list vg fm bt b e =
     leads-as f _ _ _ _ _ _ (sym (ap (λ r. tally f (formed r)) (property-says s v c name iri m json languages mapped is_list is_given its_list fm bt))) (vg c (within (node_in m es p) iri name) (opens.Object o ∷ k) more refl (no-list (term c name) bt) b e).leads
 
@@ -134,8 +134,8 @@ members-step f s a name v rest vg rg i under stand kinds seen m es p o k more bu
     let inner = right-nil (shape_faults (key_of i.final name) (takes_json s.order i seen kinds) a v) _ (right-nil (key_faults (key_of i.final name) under seen a) _ here) in
     leads-as f _ _ _ _ _ _ (sym (formed-count f _ (members_say s i own_member m.subject m.scope rest)))
     (leads-trans f _ _ _ (members_facts s i m.scope rest more) more _
-    (state (Some (node_in m (after_entry (key_of i.final name) (gives s i.final (property_of name) elsewhere v) es) (after_part i m.valued (key_of i.final name) v p))) (opens.Object o ∷ k)) _
-    (member-goes f i (key_of i.final name) _ under seen (takes_json s.order i seen kinds) (gives s i.final (property_of name) elsewhere v) a (expand_iri i.final name true false) v m es p o k
+    (state (Some (node_in m (after_entry (key_of i.final name) (keeps s i.final (property_of name) elsewhere v) es) (after_part i m.valued (key_of i.final name) v p))) (opens.Object o ∷ k)) _
+    (member-goes f i (key_of i.final name) _ under seen (takes_json s.order i seen kinds) (keeps s i.final (property_of name) elsewhere v) a (expand_iri i.final name true false) v m es p o k
     (members_facts s i m.scope rest more) _ _ _ _ _ _ built.0
     (λ t. no-json s.order i seen kinds (value-here _ (is_value (key_of i.final name)) v (first_with is_value i.final rest) j t)) h mk
     (left-nil _ _ here) (left-nil _ _ (right-nil (key_faults (key_of i.final name) under seen a) _ here)) (key-by i.final name)
@@ -144,7 +144,7 @@ members-step f s a name v rest vg rg i under stand kinds seen m es p o k more bu
     property-goes f s v i.final name iri m es p o k (members_facts s i m.scope rest more) _ _ _ _ _ (λ hanging h. walk s (spot i.final (property_of name) ordinary hanging h) v) vg b.0 b.1 b.2
     (plain-faults (form_of (term i.final name) v) (term i.final name) _ _ _ _ _ b.0 (inside-property (key_of i.final name) iri _ _ _ _ _ _ _ _ _ ke inner))))
     (rg i under stand kinds (see s i own_member under seen a name v) m _ _ o k more built.1 (value-rest _ (is_value (key_of i.final name)) v (first_with is_value i.final rest) j) h
-    (marks-after (key_of i.final name) _ _ (form_of (term i.final name) v) (gives s i.final (property_of name) elsewhere v) under _ _ es seen.entries built.0 mk)
+    (marks-after (key_of i.final name) _ _ (form_of (term i.final name) v) (keeps s i.final (property_of name) elsewhere v) under _ _ es seen.entries built.0 mk)
     (right-nil _ _ e)))
 
 pub members-none : (f : Parts → ℕ) (s : Settings) → MembersGo f s no_member

@@ -14,7 +14,7 @@ use Rattle.jl_defs.specs.Settings.{property_of, elsewhere}
 use Rattle.jl_defs.specs.Keys.{Key, value, key_of, is_value, is_leading}
 use Rattle.jl_defs.specs.ObjectContexts.{Look}
 use Rattle.jl_defs.specs.ValueObjects.{is_json}
-use Rattle.jl_defs.specs.Kept.{own_member, plain_form, gives, entries}
+use Rattle.jl_defs.specs.Kept.{own_member, plain_form, keeps, entries}
 use Rattle.jl_defs.specs.Sets.{Has, IsWithin}
 use Rattle.jl_defs.specs.MemberFaults.{Seen}
 use Rattle.jl_defs.specs.Faults.{place, see, members_faults, value_faults}
@@ -111,13 +111,13 @@ value_told b a n v more = member_facts (key_of (initial b) n) a (λ _. streamed.
 -- the node behind a member
 abbrev pub behind_member : Option Text → Library → Where → List Look → Text → Tree → Node → Entries → ValueParts → Node
 behind_member b l w looks n v m es p =
-    node_in m (after_entry (key_of (initial b) n) (gives (streaming b l) (initial b) (property_of n) elsewhere v) es) (after_part (looked b (stand_at w) looks) m.valued (key_of (initial b) n) v p)
+    node_in m (after_entry (key_of (initial b) n) (keeps (streaming b l) (initial b) (property_of n) elsewhere v) es) (after_part (looked b (stand_at w) looks) m.valued (key_of (initial b) n) v p)
 
 pub marks-behind : (b : Option Text) (l : Library) (w : Where) (looks : List Look) (seen : Seen) (a : ℕ) (n : Text) (v : Tree) (es : Entries) → key_forms (key_of (initial b) n) a (λ _. forms (initial b) v) ≡ [] → Marks es seen.entries →
-    Marks (after_entry (key_of (initial b) n) (gives (streaming b l) (initial b) (property_of n) elsewhere v) es) (see (streaming b l) (looked b (stand_at w) looks) own_member (under_at w) seen a n v).entries
+    Marks (after_entry (key_of (initial b) n) (keeps (streaming b l) (initial b) (property_of n) elsewhere v) es) (see (streaming b l) (looked b (stand_at w) looks) own_member (under_at w) seen a n v).entries
 unfolding entries
 marks-behind b l w looks seen a n v es form mk =
-    marks-after (key_of (initial b) n) (Unit {0}) (Unit {0}) plain_form (gives (streaming b l) (initial b) (property_of n) elsewhere v) (under_at w) _ _ es seen.entries (key-built (key_of (initial b) n) _ a _ form (λ _. (refl, tt, tt))) mk
+    marks-after (key_of (initial b) n) (Unit {0}) (Unit {0}) plain_form (keeps (streaming b l) (initial b) (property_of n) elsewhere v) (under_at w) _ _ es seen.entries (key-built (key_of (initial b) n) _ a _ form (λ _. (refl, tt, tt))) mk
 
 -- the key and the value go on
 pub member-goes-on : (b : Option Text) (l : Library) (w : Where) (looks : List Look) (seen : Seen) (a : ℕ) (n : Text) (v : Tree) (m : Node) (es : Entries) (p : ValueParts) (o : Option Node) (k : List Open) (more : List Fact) →

@@ -16,7 +16,7 @@ use Rattle.jl_defs.specs.ObjectContexts.{Inside}
 use Rattle.jl_defs.specs.Values as values
 use Rattle.jl_defs.specs.ValueObjects as objects
 use Rattle.jl_defs.specs.ValueObjects.{first_with, all_with, is_json_type, value_type}
-use Rattle.jl_defs.specs.Kept.{own_member, form_gives, entries_by, if_key, any_key, gives, entries}
+use Rattle.jl_defs.specs.Kept.{own_member, form_keeps, entries_by, if_key, any_key, keeps, entries}
 use Rattle.jl_defs.specs.Expansion.{naming, type_strings}
 use Rattle.jl_defs.specs.NodeMap.{term_of_node}
 use Rattle.jl_defs.specs.Dataset.{term_of_value}
@@ -98,7 +98,7 @@ members-silent f s i under m (member a n v rest) b p h =
     (λ iri e.
     let bb = property-built (key_of i.final n) iri _ e b.0 in
     ap (λ r. tally f (formed r)) (property-says s v i.final n iri m _ _ _ _ _ (λ hanging h. walk s (spot i.final (property_of n) ordinary hanging h) v) bb.0 bb.1
-    ∙ quiet-value s i.final (within m iri n) v bb.2 (subst (λ fm. form_gives fm (λ _. gives s i.final (property_of n) elsewhere v) ≡ false) bb.0 (no-property (key_of i.final n) iri under _ _ _ (entries s i own_member under rest) e p)))))
+    ∙ quiet-value s i.final (within m iri n) v bb.2 (subst (λ fm. form_keeps fm (λ _. keeps s i.final (property_of n) elsewhere v) ≡ false) bb.0 (no-property (key_of i.final n) iri under _ _ _ (entries s i own_member under rest) e p)))))
     (members-silent f s i under m rest b.1 (any-right is_property (member_entries s i under n v) (entries s i own_member under rest) p)
     (λ t. h (any-behind is_kind (member_entries s i under n v) (entries s i own_member under rest) t)))
 

@@ -13,7 +13,8 @@ use Rattle.jl_defs.specs.Expansion.{naming_of}
 use Rattle.jl_defs.specs.NodeMap.{term_of_node}
 use Rattle.jl_defs.specs.Kept.{own_member, entries}
 use Rattle.jl_defs.specs.LateKeys as late
-use Rattle.jl_defs.specs.LateKeys.{all_late_graph, behind_graph, late_contexts}
+use Rattle.jl_defs.specs.LateKeys.{all_late_graph, after_graph, late_contexts}
+use Rattle.jl_defs.specs.Rest.{rest_of}
 use Rattle.jl_defs.specs.MemberFaults.{nothing_seen}
 use Rattle.jl_defs.specs.Faults.{value_faults}
 use Rattle.jl_frames.specs.declared.nodes.Node.{Node}
@@ -107,16 +108,18 @@ closes-verdict b l w at ms k more n =
     (marks-end (streaming b l) (inside b w ms) (under_at w) ms no_entries [] n.built marks-none) (plain-end (streaming b l) (inside b w ms) (under_at w) ms n.built)
     (λ v. (n.input (same ∙ v), type-none b at ms n.json (same ∙ v) (stand_at w), subst (λ x. Kept (inside b w ms) ms (parts_after (inside b w ms) x ms no_parts)) (sym (n.valued ∙ (same ∙ v))) (kept-end (streaming b l) (inside b w ms) ms once)))
 
-no-graphs : (b : Option Text) (l : Library) (w : Where) (ms : Members) → BuiltMembers (streaming b l) (inside b w ms) ms → graphs_in b l w ms ≡ []
-no-graphs b l w ms bm =
-    ap (λ x. late.if_so x (all_late_graph (streaming b l) (inside b w ms) (under_at w) (behind_graph (inside b w ms) ms)))
-    (not-graph Streaming w (entries (streaming b l) (inside b w ms) own_member (under_at w) ms) (plain-end (streaming b l) (inside b w ms) (under_at w) ms bm))
+no-graphs : (b : Option Text) (l : Library) (w : Where) (at : ℕ) (ms : Members) → BuiltMembers (streaming b l) (inside b w ms) ms → graphs_in b l w at ms ≡ []
+no-graphs b l w at ms bm =
+    let s = streaming b l in
+    let i = inside b w ms in
+    ap (λ x. late.if_so x (all_late_graph s i (under_at w) (after_graph i (rest_of s (initial b) (under_at w) (stand_at w) at i ms))))
+    (not-graph s (initial b) w at i ms bm)
 
 -- no fault is left
 none-left : (b : Option Text) (l : Library) (w : Where) (at : ℕ) (ms : Members) → first_context ms ≡ None → Known b l w at ms → closing_in b l w at ms ≡ [] → value_faults (streaming b l) (initial b) (under_at w) (stand_at w) (object at ms) ≡ []
 none-left b l w at ms e n c =
     object-sum b l w at ms e
-    ∙ both-nil _ _ (both-nil _ _ n.passed.faults (both-nil _ _ (both-nil _ _ n.passed.late (no-graphs b l w ms n.built)) c)) (no-contexts b ms n.passed.forms)
+    ∙ both-nil _ _ (both-nil _ _ n.passed.faults (both-nil _ _ (both-nil _ _ n.passed.late (no-graphs b l w at ms n.built)) c)) (no-contexts b ms n.passed.forms)
 
 known-verdict : (b : Option Text) (l : Library) (w : Where) (at : ℕ) (ms : Members) (k : List Open) (more : List Fact) → first_context ms ≡ None → Known b l w at ms →
     Verdict (closes ∷ more) (state (Some (closing_node b l w at ms)) (opens.Object (node_at w) ∷ k)) (closing_in b l w at ms) [] →

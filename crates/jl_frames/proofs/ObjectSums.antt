@@ -40,21 +40,21 @@ use Rattle.jl_frames.proofs.MembersStop.{faults_in, has-split}
 abbrev pub closing_in : Option Text → Library → Where → ℕ → Members → List Fault
 closing_in b l w at ms = closing_faults (under_at w) (looked b (stand_at w) (looks_in b ms)) at ms (entries (streaming b l) (looked b (stand_at w) (looks_in b ms)) own_member (under_at w) ms)
 
-abbrev pub graphs_in : Option Text → Library → Where → Members → List Fault
-graphs_in b l w ms = late_graphs (streaming b l) (looked b (stand_at w) (looks_in b ms)) (under_at w) (stand_at w) ms
+abbrev pub graphs_in : Option Text → Library → Where → ℕ → Members → List Fault
+graphs_in b l w at ms = late_graphs (streaming b l) (initial b) (under_at w) (stand_at w) at (looked b (stand_at w) (looks_in b ms)) ms
 
 abbrev pub members_in : Option Text → Library → Where → Members → List Fault
 members_in b l w ms = faults_in b l w (looks_in b ms) (all_with is_kind (initial b) ms) nothing_seen ms
 
 pub object-sum : (b : Option Text) (l : Library) (w : Where) (at : ℕ) (ms : Members) → first_context ms ≡ None →
     value_faults (streaming b l) (initial b) (under_at w) (stand_at w) (object at ms)
-    ≡ (members_in b l w ms ++ ((lates b (stand_at w) (looks_in b ms) true ms ++ graphs_in b l w ms) ++ closing_in b l w at ms)) ++ late_contexts Streaming ms
+    ≡ (members_in b l w ms ++ ((lates b (stand_at w) (looks_in b ms) true ms ++ graphs_in b l w at ms) ++ closing_in b l w at ms)) ++ late_contexts Streaming ms
 unfolding value_faults
 object-sum b l w at ms e =
     ap (λ r. decided_faults r (λ i. members_faults (streaming b l) i (place own_member (under_at w) (stand_at w) (all_with is_kind i.final ms)) nothing_seen ms
     ++ (late_members (streaming b l) (initial b) (under_at w) (stand_at w) at i ms ++ closing_faults (under_at w) i at ms (entries (streaming b l) i own_member (under_at w) ms)))
     ++ late_contexts Streaming ms) (decides b l (under_at w) (stand_at w) at ms e)
-    ∙ ap (λ x. (members_in b l w ms ++ ((x ++ graphs_in b l w ms) ++ closing_in b l w at ms)) ++ late_contexts Streaming ms) (lates-so b l (under_at w) (stand_at w) (looks_in b ms) at ms e)
+    ∙ ap (λ x. (members_in b l w ms ++ ((x ++ graphs_in b l w at ms) ++ closing_in b l w at ms)) ++ late_contexts Streaming ms) (lates-so b l (under_at w) (stand_at w) (looks_in b ms) at ms e)
 
 -- the parts among all
 members-among : (xs ls gs cs rest fs : List Fault) → fs ≡ (xs ++ ((ls ++ gs) ++ cs)) ++ rest → IsWithin (xs ++ ls) fs
@@ -69,10 +69,10 @@ closing-among xs ls gs cs rest fs e f h = subst (λ ys. Has ys f) (sym e) (has-l
 
 pub in-members : (b : Option Text) (l : Library) (w : Where) (at : ℕ) (ms : Members) → first_context ms ≡ None →
     IsWithin (members_in b l w ms ++ lates b (stand_at w) (looks_in b ms) true ms) (value_faults (streaming b l) (initial b) (under_at w) (stand_at w) (object at ms))
-in-members b l w at ms e = members-among (members_in b l w ms) (lates b (stand_at w) (looks_in b ms) true ms) (graphs_in b l w ms) (closing_in b l w at ms) (late_contexts Streaming ms) _ (object-sum b l w at ms e)
+in-members b l w at ms e = members-among (members_in b l w ms) (lates b (stand_at w) (looks_in b ms) true ms) (graphs_in b l w at ms) (closing_in b l w at ms) (late_contexts Streaming ms) _ (object-sum b l w at ms e)
 
 pub in-closing : (b : Option Text) (l : Library) (w : Where) (at : ℕ) (ms : Members) → first_context ms ≡ None → IsWithin (closing_in b l w at ms) (value_faults (streaming b l) (initial b) (under_at w) (stand_at w) (object at ms))
-in-closing b l w at ms e = closing-among (members_in b l w ms) (lates b (stand_at w) (looks_in b ms) true ms) (graphs_in b l w ms) (closing_in b l w at ms) (late_contexts Streaming ms) _ (object-sum b l w at ms e)
+in-closing b l w at ms e = closing-among (members_in b l w ms) (lates b (stand_at w) (looks_in b ms) true ms) (graphs_in b l w at ms) (closing_in b l w at ms) (late_contexts Streaming ms) _ (object-sum b l w at ms e)
 
 -- no later context
 context-none : (b : Option Text) (n : Text) (a : ℕ) (values : Unit {0} → List ℕ) → key_forms (key_of (initial b) n) a values ≡ [] → is_context_name n ≡ false

@@ -11,7 +11,7 @@ use Rattle.jl_defs.specs.Keys.{Key, kind, value, language, key_of, is_kind, is_v
 use Rattle.jl_defs.specs.ObjectContexts.{Inside}
 use Rattle.jl_defs.specs.ValueObjects as objects
 use Rattle.jl_defs.specs.ValueObjects.{first_with, all_with, string_or_none, type_of_values}
-use Rattle.jl_defs.specs.Kept.{gives}
+use Rattle.jl_defs.specs.Kept.{keeps}
 use Rattle.jl_frames.specs.declared.entries.Entries.{Entries}
 use Rattle.jl_frames.specs.declared.values.ValueParts.{ValueParts}
 use Rattle.jl_frames.specs.declared.values.RawValue.{RawValue}
@@ -140,7 +140,7 @@ unfolding Once parts_after
 value-stays s i no_member es p o e = refl
 value-stays s i (member a n v rest) es p o e =
     value-stays s i rest _ (after_part i true (key_of i.final n) v p) o.3
-    (value-mark (key_of i.final n) (gives s i.final (property_of n) elsewhere v) es ∙ (ap (λ b. is_value (key_of i.final n) || b) e ∙ or-true (is_value (key_of i.final n))))
+    (value-mark (key_of i.final n) (keeps s i.final (property_of n) elsewhere v) es ∙ (ap (λ b. is_value (key_of i.final n) || b) e ∙ or-true (is_value (key_of i.final n))))
     ∙ (value-step i (key_of i.final n) v p ∙ no-second (is_value (key_of i.final n)) es v p.value o.0 e)
 
 raw-first : (v : Tree) (x : Option RawValue) → x ≡ None → value_by true v x ≡ raw_of (Some v)
@@ -158,7 +158,7 @@ value-end s i (member a n v rest) es p o e = by (is_value (key_of i.final n)) re
 
     by : (b : Bool) → is_value (key_of i.final n) ≡ b → (next.value ≡ None → (parts_after i true rest next).value ≡ raw_of (first_with is_value i.final rest)) → (parts_after i true rest next).value ≡ raw_of (elim b [ true ↦ Some v | false ↦ first_with is_value i.final rest ])
     by true t f =
-        value-stays s i rest _ next o.3 (value-mark (key_of i.final n) (gives s i.final (property_of n) elsewhere v) es ∙ ap (λ x. x || es.value) t)
+        value-stays s i rest _ next o.3 (value-mark (key_of i.final n) (keeps s i.final (property_of n) elsewhere v) es ∙ ap (λ x. x || es.value) t)
         ∙ (value-step i (key_of i.final n) v p ∙ (ap (λ x. value_by x v p.value) t ∙ raw-first v p.value e))
     by false t f = f (value-step i (key_of i.final n) v p ∙ (ap (λ x. value_by x v p.value) t ∙ e))
 
@@ -180,7 +180,7 @@ unfolding Once parts_after
 text-stays s i no_member es p o e = refl
 text-stays s i (member a n v rest) es p o e =
     text-stays s i rest _ (after_part i true (key_of i.final n) v p) o.3
-    (language-mark (key_of i.final n) (gives s i.final (property_of n) elsewhere v) es ∙ (ap (λ b. is_language (key_of i.final n) || b) e ∙ or-true (is_language (key_of i.final n))))
+    (language-mark (key_of i.final n) (keeps s i.final (property_of n) elsewhere v) es ∙ (ap (λ b. is_language (key_of i.final n) || b) e ∙ or-true (is_language (key_of i.final n))))
     ∙ (text-step i (key_of i.final n) v p ∙ no-text (is_language (key_of i.final n)) es v p.language o.1 e)
 
 text-first : (v : Tree) (x : Option Text) → x ≡ None → text_by true v x ≡ string_of v
@@ -201,7 +201,7 @@ text-end s i (member a n v rest) es p o e = by (is_language (key_of i.final n)) 
 
     by : (b : Bool) → is_language (key_of i.final n) ≡ b → (next.language ≡ None → (parts_after i true rest next).language ≡ string_or_none (first_with is_language i.final rest)) → (parts_after i true rest next).language ≡ string_or_none (elim b [ true ↦ Some v | false ↦ first_with is_language i.final rest ])
     by true t f =
-        text-stays s i rest _ next o.3 (language-mark (key_of i.final n) (gives s i.final (property_of n) elsewhere v) es ∙ ap (λ x. x || es.language) t)
+        text-stays s i rest _ next o.3 (language-mark (key_of i.final n) (keeps s i.final (property_of n) elsewhere v) es ∙ ap (λ x. x || es.language) t)
         ∙ (text-step i (key_of i.final n) v p ∙ (ap (λ x. text_by x v p.language) t ∙ text-first v p.language e))
     by false t f = f (text-step i (key_of i.final n) v p ∙ (ap (λ x. text_by x v p.language) t ∙ e))
 

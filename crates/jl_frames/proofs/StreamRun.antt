@@ -14,7 +14,7 @@ use Rattle.jl_defs.specs.Settings.{Settings, no_property, root}
 use Rattle.jl_defs.specs.Dataset.{dataset}
 use Rattle.jl_defs.specs.Faults as faults
 use Rattle.jl_defs.specs.Faults.{value_faults, items_faults}
-use Rattle.jl_defs.specs.Kept.{gives}
+use Rattle.jl_defs.specs.Kept.{keeps}
 use Rattle.jl_defs.specs.Sets.{Has, SameSet}
 use Rattle.jl_laws.specs.Says.{says, root_spot}
 use Rattle.jl_laws.proofs.Counting.{same-set}
@@ -55,7 +55,7 @@ items-step b l x rest vs xs w k more st scope =
     (λ e h.
     verdict-after _ (streamed.items_facts (initial b) (has_property (under_at w)) rest more) _ (state (node_at w) (opens.Array ∷ k)) _ _
     (subst (λ n. SameStop (streamed.value_facts (initial b) (has_property (under_at w)) x (streamed.items_facts (initial b) (has_property (under_at w)) rest more)) (state (node_at w) (opens.Array ∷ k))
-    (streamed.items_facts (initial b) (has_property (under_at w)) rest more) (state n (opens.Array ∷ k))) (st (gives (streaming b l) (initial b) (under_at w) (stand_at w) x))
+    (streamed.items_facts (initial b) (has_property (under_at w)) rest more) (state n (opens.Array ∷ k))) (st (keeps (streaming b l) (initial b) (under_at w) (stand_at w) x))
     (value-on b l x w (opens.Array ∷ k) (streamed.items_facts (initial b) (has_property (under_at w)) rest more) refl scope e h))
     (xs w k more st scope))
 

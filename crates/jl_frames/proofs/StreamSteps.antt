@@ -13,7 +13,7 @@ use Rattle.jl_defs.specs.Settings.{property_of, elsewhere, term_under, lists}
 use Rattle.jl_defs.specs.Keys.{Key, id, kind, value, property, key_of}
 use Rattle.jl_defs.specs.ObjectContexts.{fault, Look, property_context}
 use Rattle.jl_defs.specs.Values as values
-use Rattle.jl_defs.specs.Kept.{gives}
+use Rattle.jl_defs.specs.Kept.{keeps}
 use Rattle.jl_defs.specs.MemberFaults.{Seen}
 use Rattle.jl_defs.specs.Faults as faults
 use Rattle.jl_defs.specs.Faults.{value_faults}
@@ -55,7 +55,7 @@ no-lists b (within n iri name) = refl
 -- a value without faults and without forms that aren't built goes on
 pub value-on : (b : Option Text) (l : Library) (t : Tree) (w : Where) (k : List Open) (more : List Fact) → in_dropped k ≡ false → scope_at w ≡ Main →
     value_faults (streaming b l) (initial b) (under_at w) (stand_at w) t ≡ [] → forms (initial b) t ≡ [] →
-    SameStop (streamed.value_facts (initial b) (has_property (under_at w)) t more) (state (node_at w) k) more (complete (node_at (held_by (gives (streaming b l) (initial b) (under_at w) (stand_at w) t) w)) k)
+    SameStop (streamed.value_facts (initial b) (has_property (under_at w)) t more) (state (node_at w) k) more (complete (node_at (held_by (keeps (streaming b l) (initial b) (under_at w) (stand_at w) t) w)) k)
 value-on b l t w k more d scope e h =
     ap (λ fs. (run fs (state (node_at w) k)).stopped) (same-value-facts b l t (under_at w) (stand_at w) more e h)
     ∙ (ap (λ g. (run (facts.value_facts (streaming b l) (initial b) (under_at w) (stand_at w) g t more) (state (node_at w) k)).stopped) (sym scope)
@@ -65,9 +65,9 @@ value-on b l t w k more d scope e h =
 pub member-on : (b : Option Text) (l : Library) (looks : List Look) (w : Where) (kz : Key) (seen : Seen) (a : ℕ) (n : Text) (v : Tree) (m : Node) (es : Entries) (p : ValueParts) (o : Option Node) (k : List Open) (more : List Fact) →
     key_of (initial b) n ≡ kz → m.scope ≡ Main → (m.valued ≡ true → m.subject ≡ None) → Marks es seen.entries → own_faults kz (under_at w) seen a v (within_faults b l n v) ≡ [] → key_forms kz a (λ _. forms (initial b) v) ≡ [] →
     SameStop (key_fact a (expand_iri (initial b) n true false) ∷ member_facts kz a (λ _. streamed.value_facts (initial b) true v more) b v more) (state (Some (node_in m es p)) (opens.Object o ∷ k)) more
-    (state (Some (node_in m (after_entry kz (gives (streaming b l) (initial b) (property_of n) elsewhere v) es) (after_part (looked b (stand_at w) looks) m.valued kz v p))) (opens.Object o ∷ k))
+    (state (Some (node_in m (after_entry kz (keeps (streaming b l) (initial b) (property_of n) elsewhere v) es) (after_part (looked b (stand_at w) looks) m.valued kz v p))) (opens.Object o ∷ k))
 member-on b l looks w kz seen a n v m es p o k more ke scope sub mk own form =
-    (member-goes (λ q. 0) (looked b (stand_at w) looks) kz (Unit {0}) (under_at w) seen false (gives (streaming b l) (initial b) (property_of n) elsewhere v) a (expand_iri (initial b) n true false) v m es p o k more
+    (member-goes (λ q. 0) (looked b (stand_at w) looks) kz (Unit {0}) (under_at w) seen false (keeps (streaming b l) (initial b) (property_of n) elsewhere v) a (expand_iri (initial b) n true false) v m es p o k more
     (λ iri. (walk (streaming b l) (spot_at (initial b) (within (node_in m es p) iri n)) v).0) (λ _. []) (λ _. []) (λ _. []) (λ _. []) (λ _. streamed.value_facts (initial b) true v more)
     (key-built kz (Unit {0}) a _ form (λ _. tt)) (λ t. refl) sub mk (own-key kz (under_at w) seen a v _ own) (own-shape kz (under_at w) seen a v _ own) (key-so b n ∙ ke)
     (λ iri e. property-on (own-property kz iri e own) (form-property kz iri e form) iri)).stop
@@ -80,10 +80,10 @@ member-on b l looks w kz seen a n v m es p o k more ke scope sub mk own form =
 
     property-on : value_faults (streaming b l) (initial b) (property_of n) elsewhere v ≡ [] → forms (initial b) v ≡ [] → (iri : Text) →
         Leads (λ q. 0) (tally (λ q. 0) (formed (walk (streaming b l) (spot_at (initial b) (within (node_in m es p) iri n)) v).0)) (streamed.value_facts (initial b) true v more)
-        (state (Some (record (node_in m es p) { pending = pending.Property iri })) (opens.Object o ∷ k)) more (state (Some (node_in m (held (gives (streaming b l) (initial b) (property_of n) elsewhere v) es) p)) (opens.Object o ∷ k))
+        (state (Some (record (node_in m es p) { pending = pending.Property iri })) (opens.Object o ∷ k)) more (state (Some (node_in m (held (keeps (streaming b l) (initial b) (property_of n) elsewhere v) es) p)) (opens.Object o ∷ k))
     property-on e h iri =
         subst (λ fs. Leads (λ q. 0) (tally (λ q. 0) (formed (walk (streaming b l) (spot_at (initial b) (within (node_in m es p) iri n)) v).0)) fs (state (Some (record (node_in m es p) { pending = pending.Property iri })) (opens.Object o ∷ k)) more
-        (state (Some (node_in m (held (gives (streaming b l) (initial b) (property_of n) elsewhere v) es) p)) (opens.Object o ∷ k)))
+        (state (Some (node_in m (held (keeps (streaming b l) (initial b) (property_of n) elsewhere v) es) p)) (opens.Object o ∷ k)))
         (sym (same-value-facts b l v (property_of n) elsewhere more e h ∙ ap (λ g. facts.value_facts (streaming b l) (initial b) (property_of n) elsewhere g v more) (sym scope)))
         (tree-goes (λ q. 0) (streaming b l) v (initial b) (within (node_in m es p) iri n) (opens.Object o ∷ k) more refl refl (built b l (property_of n) elsewhere v h) e).leads
 

@@ -11,8 +11,9 @@ use Rattle.jl_defs.specs.Process.{Library}
 use Rattle.jl_defs.specs.Settings.{Settings, Under, Stand}
 use Rattle.jl_defs.specs.Keys.{Key, kind, key_of, is_kind, is_leading}
 use Rattle.jl_defs.specs.ObjectContexts.{Own, is_context_name, first_context, Look, look_at, look_at_key, Inside, decide, decide_by, candidates, leads_in, types_in, is_in_prelude, prelude_looks, after_prelude, after_context}
+use Rattle.jl_defs.specs.Rest.{own_candidates}
 use Rattle.jl_defs.specs.OpenTree.{First, quote, brace, bracket, sign, Open, unread, first_byte, stand_in, Extends}
-use Rattle.jl_defs.specs.Settled.{is_some_member, has_ended, ends_by, is_first_context, own_candidates, decided, decided_by_key}
+use Rattle.jl_defs.specs.Settled.{is_some_member, has_ended, ends_by, is_first_context, decided, decided_by_key}
 use Rattle.jl_defs.specs.Reported.{decide_read}
 use Rattle.jl_laws.proofs.Begun.{Begins, extends-begins, Alike, IsRead, stand-alike}
 use Rattle.jl_laws.proofs.Bools.{true-false, negated, or-true, and-left, and-right, picked-false}

@@ -13,8 +13,8 @@ use Rattle.jl_defs.specs.Settings.{Settings, Under, no_property, Stand, root, in
 use Rattle.jl_defs.specs.Keys.{is_kind, Key, nest, reverse}
 use Rattle.jl_defs.specs.ObjectContexts.{Inside, decide, fault}
 use Rattle.jl_defs.specs.ValueObjects.{all_with}
-use Rattle.jl_defs.specs.Kept.{gives, own_member, entries, all_nested_entries, refusal, reversed_member, nest_inside, nested_member}
-use Rattle.jl_defs.specs.LateKeys.{late_contexts, late_keys, late_graphs, late_members, rest_of, if_so}
+use Rattle.jl_defs.specs.Kept.{own_member, entries, all_nested_entries, refusal, reversed_member, nest_inside, nested_member}
+use Rattle.jl_defs.specs.LateKeys.{late_contexts, late_in, late_graphs, late_members, if_so}
 use Rattle.jl_defs.specs.MemberFaults.{nothing_seen, closing_faults, Seen, turned_faults, entry_item_faults, item_fault, is_refused, map_item_faults, checked_kind}
 use Rattle.jl_defs.specs.Faults.{decided_faults, place, value_faults, items_faults, members_faults, faults, judged, all_judged, entries_faults, reversed_faults, applied_faults, map_faults, nested_faults, nested_place, Place, all_nested_faults, see_nested, see_nested_in}
 use Rattle.jl_defs.specs.OpenTree.{quote, sign, brace, bracket, Open, unread, in_scalar, in_array, in_object, in_key, in_member, whole, stand_in, read_members, IsUnread, NextItem, Extends, First, first_byte}
@@ -49,22 +49,22 @@ decided-le f (Ok i) A B h = h i
 decided-le f (Err e) A B h = omega arith
 
 -- the closed members of an object, and what its next member gives
-closed-le : (f : Fault → ℕ) (base : Option Text) (library : Library) (i : Inside) (under : Under) (stand : Stand) (ms rest : Members) (extra : ℕ) →
+closed-le : (f : Fault → ℕ) (base : Option Text) (library : Library) (c : Context) (under : Under) (stand : Stand) (at : ℕ) (i : Inside) (ms rest : Members) (extra : ℕ) →
     (let s = streaming base library in
     let p = place own_member under stand (all_with is_kind i.final ms) in
     extra ≤ tally f (members_faults s i p (seen_behind s i p nothing_seen ms) rest)) →
     (let s = streaming base library in
-    tally f (closed_reported s i (own_place i under stand ms) ms) + extra
-    ≤ tally f (members_faults s i (own_place i under stand (then_members ms rest)) nothing_seen (then_members ms rest)) + tally f (late_graphs s i under stand (then_members ms rest)))
-closed-le f base library i under stand ms rest extra h =
+    tally f (closed_reported s c at i (own_place i under stand ms) ms) + extra
+    ≤ tally f (members_faults s i (own_place i under stand (then_members ms rest)) nothing_seen (then_members ms rest)) + tally f (late_graphs s c under stand at i (then_members ms rest)))
+closed-le f base library c under stand at i ms rest extra h =
     let s = streaming base library in
     let kinds = all_with is_kind i.final ms in
     let p = place own_member under stand kinds in
     omega (
       arith,
       h,
-      tally-append f (members_faults s i p nothing_seen ms) (late_graphs s i under stand ms),
-      late-graphs-then f base library i under stand ms rest,
+      tally-append f (members_faults s i p nothing_seen ms) (late_graphs s c under stand at i ms),
+      late-graphs-then f base library c under stand at i ms rest,
       members-then f s i p nothing_seen ms rest,
       ap (tally f) (kinds-same base library i own_member under stand kinds (all_with is_kind i.final (then_members ms rest)) nothing_seen (then_members ms rest)),
     )
@@ -79,12 +79,12 @@ whole-split : (f : Fault → ℕ) (base : Option Text) (library : Library) (c : 
     (let s = streaming base library in
     tally f (whole_faults s c under stand at ms i)
     ≡ tally f (members_faults s i (own_place i under stand ms) nothing_seen ms)
-    + ((tally f (late_keys i (rest_of s c under stand at i ms)) + tally f (late_graphs s i under stand ms)) + tally f (closing_faults under i at ms (entries s i own_member under ms))))
+    + ((tally f (late_in s c under stand at i ms) + tally f (late_graphs s c under stand at i ms)) + tally f (closing_faults under i at ms (entries s i own_member under ms))))
 whole-split f base library c under stand at ms i =
     let s = streaming base library in
     let own = members_faults s i (own_place i under stand ms) nothing_seen ms in
-    let late = late_keys i (rest_of s c under stand at i ms) in
-    let graphs = late_graphs s i under stand ms in
+    let late = late_in s c under stand at i ms in
+    let graphs = late_graphs s c under stand at i ms in
     let closing = closing_faults under i at ms (entries s i own_member under ms) in
     omega (arith, tally-append f own ((late ++ graphs) ++ closing), tally-append f (late ++ graphs) closing, tally-append f late graphs)
 
@@ -94,7 +94,7 @@ unfolding value_faults
 object-stays f base library c under stand at ms rest =
     let s = streaming base library in
     let all = then_members ms rest in
-    let read = λ (i : Inside). closed_reported s i (own_place i under stand ms) ms ++ late_read s c under stand at i ms in
+    let read = λ (i : Inside). closed_reported s c at i (own_place i under stand ms) ms ++ late_read s c under stand at i ms in
     let late = late_contexts Streaming in
     let theirs = decided_faults (decide s c under stand at all) (whole_faults s c under stand at all) in
     if-so-le f (decided s c under stand at ms) _ _
@@ -104,9 +104,9 @@ object-stays f base library c under stand at ms rest =
       decided-le f (decide s c under stand at all) read (whole_faults s c under stand at all)
           (λ i. omega (
             arith,
-            closed-le f base library i under stand ms rest 0 (omega arith),
+            closed-le f base library c under stand at i ms rest 0 (omega arith),
             late-then f base library c under stand at i ms rest e,
-            tally-append f (closed_reported s i (own_place i under stand ms) ms) (late_keys i (rest_of s c under stand at i ms)),
+            tally-append f (closed_reported s c at i (own_place i under stand ms) ms) (late_in s c under stand at i ms),
             whole-split f base library c under stand at all i,
           )),
       late-contexts-then f ms rest,
@@ -131,7 +131,7 @@ open-stays f base library c under stand j at ms ends a n o v rest x h m q r =
     let s = streaming base library in
     let all = then_members ms (member a n v rest) in
     let part = read_members ms a n o in
-    let read = λ (i : Inside). closed_reported s i (own_place i under stand ms) ms ++ (late_read s c under stand at i part ++ open_faults s i under stand ms a n o) in
+    let read = λ (i : Inside). closed_reported s c at i (own_place i under stand ms) ms ++ (late_read s c under stand at i part ++ open_faults s i under stand ms a n o) in
     let late = late_contexts Streaming in
     let theirs = decided_faults (decide s c under stand at all) (whole_faults s c under stand at all) in
     if-so-le f (decided_by_key s c under stand at ms a n o) _ _
@@ -143,12 +143,12 @@ open-stays f base library c under stand j at ms ends a n o v rest x h m q r =
       decided-le f (decide s c under stand at all) read (whole_faults s c under stand at all)
           (λ i. omega (
             arith,
-            closed-le f base library i under stand ms (member a n v rest) (tally f (open_faults s i under stand ms a n o))
+            closed-le f base library c under stand at i ms (member a n v rest) (tally f (open_faults s i under stand ms a n o))
                 (member-le f base library i own_member under stand (all_with is_kind i.final ms) (seen_behind s i (own_place i under stand ms) nothing_seen ms) a n o v rest x h m q r
                 (λ seen. nested_reported s i n (own_place i under stand ms) seen o) (λ _. reversed_reported s i.final o) (λ k e. omega arith)),
             late-member f base library c under stand at i ms a n o v rest d,
-            tally-append f (closed_reported s i (own_place i under stand ms) ms) (late_keys i (rest_of s c under stand at i part) ++ open_faults s i under stand ms a n o),
-            tally-append f (late_keys i (rest_of s c under stand at i part)) (open_faults s i under stand ms a n o),
+            tally-append f (closed_reported s c at i (own_place i under stand ms) ms) (late_in s c under stand at i part ++ open_faults s i under stand ms a n o),
+            tally-append f (late_in s c under stand at i part) (open_faults s i under stand ms a n o),
             whole-split f base library c under stand at all i,
           )),
       late-contexts-member f ms a n v (stand_in o) rest,
@@ -253,13 +253,13 @@ entry-le f s name stand m o v (Err e) x h = begun-le f e (first_byte o) (begun_a
 -- the map of `@reverse`
 reverse-split : (f : Fault → ℕ) (base : Option Text) (library : Library) (c : Context) (at : ℕ) (ms : Members) (i : Inside) →
     (let s = streaming base library in
-    tally f (members_faults s i reverse_place nothing_seen ms) + tally f (late_keys i (rest_of s c reverse_property elsewhere at i ms))
+    tally f (members_faults s i reverse_place nothing_seen ms) + tally f (late_in s c reverse_property elsewhere at i ms)
     ≤ tally f (members_faults s i reverse_place nothing_seen ms ++ late_members s c reverse_property elsewhere at i ms))
 reverse-split f base library c at ms i =
     let s = streaming base library in
     let own = members_faults s i reverse_place nothing_seen ms in
-    let late = late_keys i (rest_of s c reverse_property elsewhere at i ms) in
-    let graphs = late_graphs s i reverse_property elsewhere ms in
+    let late = late_in s c reverse_property elsewhere at i ms in
+    let graphs = late_graphs s c reverse_property elsewhere at i ms in
     omega (arith, tally-append f own (late ++ graphs), tally-append f late graphs)
 
 abbrev reverse_faults : Settings → Context → ℕ → Members → Inside → List Fault
@@ -283,7 +283,7 @@ reverse-object f base library c at ms rest =
             arith,
             members-then f s i reverse_place nothing_seen ms rest,
             late-then f base library c reverse_property elsewhere at i ms rest e,
-            tally-append f (members_faults s i reverse_place nothing_seen ms) (late_keys i (rest_of s c reverse_property elsewhere at i ms)),
+            tally-append f (members_faults s i reverse_place nothing_seen ms) (late_in s c reverse_property elsewhere at i ms),
             reverse-split f base library c at all i,
           )),
       late-contexts-then f ms rest,
@@ -325,8 +325,8 @@ reverse-open f base library c at ms ends a n o v rest x h m q r =
             member-le f base library i reversed_member reverse_property elsewhere [] (seen_behind s i reverse_place nothing_seen ms) a n o v rest x h m q r
                 (λ seen. []) (λ _. []) (λ k e. reverse-reads f s i n o (seen_behind s i reverse_place nothing_seen ms) k e),
             late-member f base library c reverse_property elsewhere at i ms a n o v rest d,
-            tally-append f (members_faults s i reverse_place nothing_seen ms) (late_keys i (rest_of s c reverse_property elsewhere at i part) ++ open_part i),
-            tally-append f (late_keys i (rest_of s c reverse_property elsewhere at i part)) (open_part i),
+            tally-append f (members_faults s i reverse_place nothing_seen ms) (late_in s c reverse_property elsewhere at i part ++ open_part i),
+            tally-append f (late_in s c reverse_property elsewhere at i part) (open_part i),
             reverse-split f base library c at all i,
           )),
       late-contexts-member f ms a n v (stand_in o) rest,
@@ -380,19 +380,19 @@ abbrev maps_seen : Result Inside Code → Settings → Under → Seen → Trees 
 maps_seen r s under seen xs = see_nested_in r (λ j. record seen { entries = seen.entries ++ all_nested_entries s j under xs }) seen
 
 no-maps : (r : Result Inside Code) (s : Settings) (under : Under) (seen : Seen) → maps_seen r s under seen no_item ≡ seen
-unfolding gives
+unfolding entries
 no-maps (Ok j) s under seen = ap (λ es. record seen { entries = es }) (append-nil seen.entries)
 no-maps (Err e) s under seen = refl
 
 first-map : (r : Result Inside Code) (s : Settings) (under : Under) (seen : Seen) (at : ℕ) (ms : Members) (xs : Trees) →
     maps_seen r s under seen (item (object at ms) xs) ≡ maps_seen r s under (see_nested_in r (λ j. see_nested s j under seen ms) seen) xs
-unfolding gives
+unfolding entries
 first-map (Ok j) s under seen at ms xs =
     ap (λ es. record seen { entries = es }) (sym (append_assoc seen.entries (entries s j nested_member under ms) (all_nested_entries s j under xs)))
 first-map (Err e) s under seen at ms xs = refl
 
 nests-same : (s : Settings) (i : Inside) (name : Text) (p : Place) (seen : Seen) (xs : Trees) → see_maps s i name p seen xs ≡ nests_behind s i name p seen xs
-unfolding gives
+unfolding entries
 nests-same s i name p seen no_item = no-maps (nest_inside s i name) s p.under seen
 nests-same s i name p seen (item (object at ms) xs) =
     first-map (nest_inside s i name) s p.under seen at ms xs

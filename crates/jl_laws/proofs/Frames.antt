@@ -23,7 +23,7 @@ use Rattle.jl_defs.specs.Values.{value_of}
 use Rattle.jl_defs.specs.ValueObjects.{expand_type, value_object as value_of_object, unless_refused, json_value}
 use Rattle.jl_defs.specs.Items.{value_at, list_at, node_at, Items, no_more, more, NodeEntries, one, both, given, all_wrapped}
 use Rattle.jl_defs.specs.Kept.{Role, own_member, nested_member, reversed_member, is_admitted, Form, json_form, language_form, map_form, plain_form, form_of, nest_inside, is_only_language, value_gives, object_gives, decided_bool, gives, entries, is_list_object}
-use Rattle.jl_defs.specs.Graphs.{Shape, value_object, list_object, set_object, language_alone, graph_alone, node_object, is_graph_role, shape_of}
+use Rattle.jl_defs.specs.Graphs.{Shape, value_object, list_object, set_object, language_alone, graph_alone, node_object, reads_as_graph, shape_of}
 use Rattle.jl_defs.specs.Maps.{Addition, adds_nothing, addition, all_with_addition, entry_stand, entry_context, language_key, language_string, language_items, language_values}
 use Rattle.jl_defs.specs.NodeMap.{node_map, node_entries, items_entries, graph_of}
 use Rattle.jl_defs.specs.Dataset.{Head, link, term_of_value, entry_quads, item_quads, dataset}
@@ -171,10 +171,10 @@ value-given : (b : Bool) (x : Items) → is_some (elim b [ true ↦ Some x | fal
 value-given true x = refl
 value-given false x = refl
 
-shape-given : (order : Order) (under : Under) (stand : Stand) (i : Inside) (at : ℕ) (ms : Members) (ks : List Key) (its_list its_set content : Unit {0} → Items) (es : Unit {0} → NodeEntries) →
-    object_gives under i ms ks ≡ is_some (ex.object_items (shape_of order stand ks) under stand i at ms its_list its_set content es)
-shape-given order under stand i at ms ks its_list its_set content es =
-    by (list_any is_value ks) (list_any is_list ks) (list_any is_set ks) (is_only_language ks) (is_graph_role order stand ks) (no-list ks) (no-set ks)
+shape-given : (reads : Bool) (under : Under) (stand : Stand) (i : Inside) (at : ℕ) (ms : Members) (ks : List Key) (its_list its_set content : Unit {0} → Items) (es : Unit {0} → NodeEntries) →
+    object_gives under i ms ks ≡ is_some (ex.object_items (shape_of reads ks) under stand i at ms its_list its_set content es)
+shape-given reads under stand i at ms ks its_list its_set content es =
+    by (list_any is_value ks) (list_any is_list ks) (list_any is_set ks) (is_only_language ks) reads (no-list ks) (no-set ks)
   where
     by : (v l m o g : Bool) → (o ≡ true → l ≡ false) → (o ≡ true → m ≡ false) →
         (elim v [ true ↦ value_gives under i ms | false ↦ not o ])
@@ -194,7 +194,7 @@ scalar-given name at v (Ok c) = refl
 scalar-given name at v (Err e) = refl
 
 given-is : (s : Settings) (c : Context) (name : Text) (v : Tree) → is_given s c (property_of name) v ≡ is_some (expand s c (property_of name) elsewhere v)
-unfolding gives expand
+unfolding expand entries
 given-is s c name (scalar at Null) = refl
 given-is s c name (scalar at (boolean b)) = scalar-given name at (boolean b) (property_context s c (property_of name) c)
 given-is s c name (scalar at (Number n)) = scalar-given name at (Number n) (property_context s c (property_of name) c)
@@ -204,12 +204,12 @@ given-is s c name (object at ms) = by (decide s c (property_of name) elsewhere a
   where
     by : (r : Result Inside Fault) →
         decided_bool r (λ i. object_gives (property_of name) i ms (entries s i own_member (property_of name) ms))
-        ≡ is_some (ex.decided_items r (λ i. ex.object_items (shape_of s.order elsewhere (entries s i own_member (property_of name) ms)) (property_of name) elsewhere i at ms
+        ≡ is_some (ex.decided_items r (λ i. ex.object_items (shape_of (reads_as_graph s c (property_of name) elsewhere at i ms) (entries s i own_member (property_of name) ms)) (property_of name) elsewhere i at ms
         (λ _. with_key s i is_list (property_of name) elsewhere ms)
         (λ _. with_key s i is_set (property_of name) elsewhere ms)
         (λ _. with_key s i is_graph graph_property elsewhere ms)
         (λ _. ex.members_say s i own_member ms)))
-    by (Ok i) = shape-given s.order (property_of name) elsewhere i at ms (entries s i own_member (property_of name) ms) _ _ _ _
+    by (Ok i) = shape-given (reads_as_graph s c (property_of name) elsewhere at i ms) (property_of name) elsewhere i at ms (entries s i own_member (property_of name) ms) _ _ _ _
     by (Err e) = refl
 
 -- the values of a property, in what its container makes of them
@@ -362,7 +362,7 @@ mutual
       (all-is f s (moved p (inside p.role.around) p.head) xs)
   walk-is f s p (object at ms) =
       decided-says f p (decide s p.context p.under (stand_of p.role.around) at ms) _ _
-      (λ i. object-says f (shape_of s.order (stand_of p.role.around) (entries s i own_member p.under ms)) p i at ms
+      (λ i. object-says f (shape_of (reads_as_graph s p.context p.under (stand_of p.role.around) at i ms) (entries s i own_member p.under ms)) p i at ms
       (λ hanging h. walk_key s i is_list (spot i.final p.under ordinary hanging h) ms)
       (λ _. walk_key s i is_set (spot i.final p.under (inside p.role.around) p.role.hanging p.head) ms)
       (λ _. walk_key s i is_graph (spot i.final graph_property ordinary p.role.hanging p.head) ms)

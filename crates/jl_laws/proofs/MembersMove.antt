@@ -1,5 +1,6 @@
 -- The order of an object's members doesn't change what it says.
 use Rattle.std.proofs.Common.{ℕ, if◌then◌else◌, ◌+◌, ◌≤◌, ◌≡◌, ◌⊎◌, inl, inr, refl, sym, ◌∙◌, ap, subst, Bool, true, false, not, ◌&&◌, ◌||◌, List, [], ◌∷◌, ◌++◌, Option, Some, None, Result, Ok, Err, arith}
+use Rattle.std.proofs.lemmas.List.{append-nil}
 use Rattle.std.specs.List.{list_any}
 use Rattle.jl_model.specs.JsonTree.{Tree, scalar, array, object, Trees, no_item, item, Members, no_member, member}
 use Rattle.jl_model.specs.Parts.{Parts}
@@ -18,15 +19,15 @@ use Rattle.jl_defs.specs.ObjectContexts.{Own, Look, Inside, means_value, is_sing
 use Rattle.jl_defs.specs.Values.{Valued, left_out}
 use Rattle.jl_defs.specs.ValueObjects.{first_with, ValueType, value_type, value_in, value_object as value_of_object, object_value, string_or_none, is_null, is_json_type, unless_refused}
 use Rattle.jl_defs.specs.Items.{Items, NodeEntries}
-use Rattle.jl_defs.specs.Kept.{Role, own_member, nested_member, is_admitted, nest_inside, is_only_language, if_key, entries_by, nested_keys, value_gives, entries, nested_entries, all_nested_entries}
-use Rattle.jl_defs.specs.Graphs.{begins_graph, after_names, Shape, value_object, list_object, set_object, language_alone, graph_alone, node_object, without_names, is_graph_role, shape_of}
+use Rattle.jl_defs.specs.Kept.{Role, own_member, nested_member, is_admitted, nest_inside, is_only_language, if_key, entries_by, nested_keys, decided_bool, value_gives, entries, nested_entries, all_nested_entries}
+use Rattle.jl_defs.specs.Graphs.{Shape, value_object, list_object, set_object, language_alone, graph_alone, node_object, without_names, is_graph_by_all, reads_as_graph, shape_of}
 use Rattle.jl_defs.specs.Dataset.{Head, term_of_value}
 use Rattle.jl_defs.specs.Expansion as ex
 use Rattle.jl_defs.specs.Expansion.{with_key, naming, naming_of, id_text}
 use Rattle.jl_defs.specs.Sets.{tally}
 use Rattle.jl_laws.specs.Spots.{Around, document, ordinary, Spot, spot, stand_of, inside, moved, Said, nothing, then_says, Own as OwnQuads, node_says, value_says, graph_object_says, Content}
 use Rattle.jl_laws.specs.Says.{decided_says, value_at_spot, graph_at_spot, object_says, if_key_is, walk, walk_key, members_say, says}
-use Rattle.jl_laws.specs.Reordering.{Reordered, HasNamesOnce, IsFaultless, HasNoGraph, IsFree}
+use Rattle.jl_laws.specs.Reordering.{Reordered, HasNamesOnce, IsFaultless, AreReadAlike}
 use Rattle.jl_laws.specs.Laws.{MembersMove}
 use Rattle.jl_laws.proofs.Bools.{true-false, choice}
 use Rattle.jl_laws.proofs.Counting.{tally-append, same-set}
@@ -103,15 +104,15 @@ shape_by v l m o g =
     if v then value_object
     else (if l then list_object else (if m then set_object else (if o then language_alone else (if g then graph_alone else node_object))))
 
-shape-same : (order : Order) (stand : Stand) (ks ls : List Key) → SameCounts ks ls → is_graph_role order stand ks ≡ is_graph_role order stand ls → shape_of order stand ks ≡ shape_of order stand ls
-shape-same order stand ks ls h g =
-    ap (λ b. shape_by b (list_any is_list ks) (list_any is_set ks) (is_only_language ks) (is_graph_role order stand ks)) (any-same is_value ks ls h)
-    ∙ (ap (λ b. shape_by (list_any is_value ls) b (list_any is_set ks) (is_only_language ks) (is_graph_role order stand ks)) (any-same is_list ks ls h)
-    ∙ (ap (λ b. shape_by (list_any is_value ls) (list_any is_list ls) b (is_only_language ks) (is_graph_role order stand ks)) (any-same is_set ks ls h)
-    ∙ (ap (λ b. shape_by (list_any is_value ls) (list_any is_list ls) (list_any is_set ls) b (is_graph_role order stand ks)) (language-same ks ls h)
-    ∙ ap (λ b. shape_by (list_any is_value ls) (list_any is_list ls) (list_any is_set ls) (is_only_language ls) b) g)))
+shape-same : (g h : Bool) (ks ls : List Key) → SameCounts ks ls → g ≡ h → shape_of g ks ≡ shape_of h ls
+shape-same g h ks ls c e =
+    ap (λ b. shape_by b (list_any is_list ks) (list_any is_set ks) (is_only_language ks) g) (any-same is_value ks ls c)
+    ∙ (ap (λ b. shape_by (list_any is_value ls) b (list_any is_set ks) (is_only_language ks) g) (any-same is_list ks ls c)
+    ∙ (ap (λ b. shape_by (list_any is_value ls) (list_any is_list ls) b (is_only_language ks) g) (any-same is_set ks ls c)
+    ∙ (ap (λ b. shape_by (list_any is_value ls) (list_any is_list ls) (list_any is_set ls) b g) (language-same ks ls c)
+    ∙ ap (λ b. shape_by (list_any is_value ls) (list_any is_list ls) (list_any is_set ls) (is_only_language ls) b) e)))
 
-graph-role-same : (stand : Stand) (ks ls : List Key) → SameCounts ks ls → is_graph_role Any stand ks ≡ is_graph_role Any stand ls
+graph-role-same : (stand : Stand) (ks ls : List Key) → SameCounts ks ls → is_graph_by_all stand ks ≡ is_graph_by_all stand ls
 graph-role-same root ks ls h = alone-same ks ls h
 graph-role-same graph_entry ks ls h = alone-same (without_names ks) (without_names ls) (names-same ks ls h)
 graph-role-same entry ks ls h = refl
@@ -283,11 +284,11 @@ mutual
   no-lists-in-all s i under (item x rest) d = no-lists-in-all s i under rest d
 
 -- where no entry is a list, the content of lists doesn't matter
-list-unused : (order : Order) (stand : Stand) (ks : List Key) (p : Spot) (i : Inside) (at : ℕ) (ms : Members) (its_list other_list : Content) (its_set content : Unit {0} → Said) (own : OwnQuads) →
+list-unused : (g : Bool) (ks : List Key) (p : Spot) (i : Inside) (at : ℕ) (ms : Members) (its_list other_list : Content) (its_set content : Unit {0} → Said) (own : OwnQuads) →
     list_any is_list ks ≡ false →
-    object_says (shape_of order stand ks) p i at ms its_list its_set content own ≡ object_says (shape_of order stand ks) p i at ms other_list its_set content own
-list-unused order stand ks p i at ms its_list other_list its_set content own e =
-    by (list_any is_value ks) (list_any is_list ks) (list_any is_set ks) (is_only_language ks) (is_graph_role order stand ks) e
+    object_says (shape_of g ks) p i at ms its_list its_set content own ≡ object_says (shape_of g ks) p i at ms other_list its_set content own
+list-unused g ks p i at ms its_list other_list its_set content own e =
+    by (list_any is_value ks) (list_any is_list ks) (list_any is_set ks) (is_only_language ks) g e
   where
     by : (v l m o g : Bool) → l ≡ false →
         object_says (shape_by v l m o g) p i at ms its_list its_set content own ≡ object_says (shape_by v l m o g) p i at ms other_list its_set content own
@@ -315,7 +316,7 @@ object-alike f shape p i at ms its_list other_list its_set other_set content oth
 -- what a decided object says
 abbrev inside_says : Settings → Spot → ℕ → Members → Inside → Said
 inside_says s p at ms i =
-    object_says (shape_of s.order (stand_of p.role.around) (entries s i own_member p.under ms)) p i at ms
+    object_says (shape_of (reads_as_graph s p.context p.under (stand_of p.role.around) at i ms) (entries s i own_member p.under ms)) p i at ms
     (λ hanging h. walk_key s i is_list (spot i.final p.under ordinary hanging h) ms)
     (λ _. walk_key s i is_set (spot i.final p.under (inside p.role.around) p.role.hanging p.head) ms)
     (λ _. walk_key s i is_graph (spot i.final graph_property ordinary p.role.hanging p.head) ms)
@@ -329,12 +330,15 @@ lists-same : (f : Parts → ℕ) (s : Settings) (p : Spot) (at : ℕ) (ms ns : M
     (drops p.under ≡ false → count is_list i.final ns ≤ 1) →
     (its_content : Content) × ContentIs f its_content (with_key s i is_list p.under elsewhere ns)
     × ((its_set content : Unit {0} → Said) (own : OwnQuads) →
-    object_says (shape_of s.order (stand_of p.role.around) (entries s i own_member p.under ns)) p i at ns (list_content s p ms i) its_set content own
-    ≡ object_says (shape_of s.order (stand_of p.role.around) (entries s i own_member p.under ns)) p i at ns its_content its_set content own)
+    object_says (shape_of (reads_as_graph s p.context p.under (stand_of p.role.around) at i ns) (entries s i own_member p.under ns)) p i at ns (list_content s p ms i) its_set content own
+    ≡ object_says (shape_of (reads_as_graph s p.context p.under (stand_of p.role.around) at i ns) (entries s i own_member p.under ns)) p i at ns its_content its_set content own)
 lists-same f s p at ms ns i r l = by (choice (drops p.under))
   where
     stand : Stand
     stand = stand_of p.role.around
+
+    reads : Bool
+    reads = reads_as_graph s p.context p.under stand at i ns
 
     ks : List Key
     ks = entries s i own_member p.under ns
@@ -342,11 +346,11 @@ lists-same f s p at ms ns i r l = by (choice (drops p.under))
     by : (drops p.under ≡ true) ⊎ (drops p.under ≡ false) →
         (its_content : Content) × ContentIs f its_content (with_key s i is_list p.under elsewhere ns)
         × ((its_set content : Unit {0} → Said) (own : OwnQuads) →
-        object_says (shape_of s.order stand ks) p i at ns (list_content s p ms i) its_set content own ≡ object_says (shape_of s.order stand ks) p i at ns its_content its_set content own)
+        object_says (shape_of reads ks) p i at ns (list_content s p ms i) its_set content own ≡ object_says (shape_of reads ks) p i at ns its_content its_set content own)
     by (inl d) = (
       list_content s p ns i,
       (λ hanging h. key-is f s i is_list p.under ordinary hanging h ns),
-      (λ its_set content own. list-unused s.order stand ks p i at ns (list_content s p ms i) (list_content s p ns i) its_set content own (no-lists s i own_member p.under ns d)),
+      (λ its_set content own. list-unused reads ks p i at ns (list_content s p ms i) (list_content s p ns i) its_set content own (no-lists s i own_member p.under ns d)),
     )
     by (inr d) = (
       list_content s p ms i,
@@ -356,7 +360,7 @@ lists-same f s p at ms ns i r l = by (choice (drops p.under))
 
 -- a decided object says the same in another order
 inside-same : (f : Parts → ℕ) (s : Settings) (p : Spot) (at : ℕ) (ms ns : Members) (i : Inside) → Reordered ms ns →
-    is_graph_role s.order (stand_of p.role.around) (entries s i own_member p.under ms) ≡ is_graph_role s.order (stand_of p.role.around) (entries s i own_member p.under ns) →
+    reads_as_graph s p.context p.under (stand_of p.role.around) at i ms ≡ reads_as_graph s p.context p.under (stand_of p.role.around) at i ns →
     ((test : Key → Bool) → ComesOnce test p.under → count test i.final ns ≤ 1) →
     Alike f (inside_says s p at ms i) (inside_says s p at ns i)
 inside-same f s p at ms ns i r g once =
@@ -370,12 +374,12 @@ inside-same f s p at ms ns i r g once =
     let l = first-same is_language i.final ms ns r (once is_language (language-once p.under)) in
     let e = first-same is_id i.final ms ns r (once is_id (id-once p.under)) in
     let its_list = lists-same f s p at ms ns i r (λ d. once is_list (list-once p.under d)) in
-    let shape = shape_of s.order stand (entries s i own_member p.under ns) in
+    let shape = shape_of (reads_as_graph s p.context p.under stand at i ns) (entries s i own_member p.under ns) in
     let set_is = subst (λ zs. Alike f (set_at ns) (items_say hanging zs p.head)) (inside-placed around (λ stand. with_key s i is_set p.under stand ns))
     (key-is f s i is_set p.under (inside around) hanging p.head ns) in
     let graph_is = key-is f s i is_graph graph_property ordinary hanging p.head ns in
     let whole = λ (sh : Shape) (xs : Members). object_says sh p i at xs (list_content s p ms i) (λ _. set_at ms) (λ _. graph_at ms) (own_at ms) in
-    let same = ap (λ sh. whole sh ms) (shape-same s.order stand (entries s i own_member p.under ms) (entries s i own_member p.under ns) (entries-same s i p.under ms ns r) g)
+    let same = ap (λ sh. whole sh ms) (shape-same (reads_as_graph s p.context p.under stand at i ms) (reads_as_graph s p.context p.under stand at i ns) (entries s i own_member p.under ms) (entries s i own_member p.under ns) (entries-same s i p.under ms ns r) g)
     ∙ (object-same shape p i at ms ns (list_content s p ms i) (λ _. set_at ms) (λ _. graph_at ms) (own_at ms) (gives-same p.under i ms ns r v) (value-same i ms ns r v l) (naming-same i ms ns e)
     ∙ its_list.2 (λ _. set_at ms) (λ _. graph_at ms) (own_at ms)) in
     subst (λ x. Alike f x (inside_says s p at ns i)) (sym same)
@@ -390,7 +394,7 @@ inside-same f s p at ms ns i r g once =
 moved-by : (f : Parts → ℕ) (s : Settings) (p : Spot) (at : ℕ) (ms ns : Members) → Reordered ms ns →
     decide s p.context p.under (stand_of p.role.around) at ms ≡ decide s p.context p.under (stand_of p.role.around) at ns →
     ((i : Inside) → decide s p.context p.under (stand_of p.role.around) at ns ≡ Ok i →
-    is_graph_role s.order (stand_of p.role.around) (entries s i own_member p.under ms) ≡ is_graph_role s.order (stand_of p.role.around) (entries s i own_member p.under ns)) →
+    reads_as_graph s p.context p.under (stand_of p.role.around) at i ms ≡ reads_as_graph s p.context p.under (stand_of p.role.around) at i ns) →
     IsFaultless s p (object at ns) → Alike f (walk s p (object at ms)) (walk s p (object at ns))
 unfolding walk
 moved-by f s p at ms ns r d g e =
@@ -405,67 +409,41 @@ moved-by f s p at ms ns r d g e =
     by (Err x) h = alike-refl f (nothing p.head)
 
 -- in the order any
-any-role : (base : Option Text) (library : Library) (p : Spot) (ms ns : Members) (i : Inside) → Reordered ms ns →
-    is_graph_role Any (stand_of p.role.around) (entries (any_order base library) i own_member p.under ms)
-    ≡ is_graph_role Any (stand_of p.role.around) (entries (any_order base library) i own_member p.under ns)
-any-role base library p ms ns i r = graph-role-same (stand_of p.role.around) _ _ (entries-same (any_order base library) i p.under ms ns r)
+any-role : (base : Option Text) (library : Library) (p : Spot) (at : ℕ) (ms ns : Members) (i : Inside) → Reordered ms ns →
+    reads_as_graph (any_order base library) p.context p.under (stand_of p.role.around) at i ms
+    ≡ reads_as_graph (any_order base library) p.context p.under (stand_of p.role.around) at i ns
+any-role base library p at ms ns i r =
+    let s = any_order base library in
+    let stand = stand_of p.role.around in
+    ap (is_graph_by_all stand) (append-nil (entries s i own_member p.under ms))
+    ∙ (graph-role-same stand _ _ (entries-same s i p.under ms ns r)
+    ∙ ap (is_graph_by_all stand) (sym (append-nil (entries s i own_member p.under ns))))
 
--- in streaming order: no graph is read
-begins-none : (ks : List Key) → list_any is_graph ks ≡ false → begins_graph ks ≡ false
-begins-none [] e = refl
-begins-none (k ∷ ks) e = by (is_graph k) e
-  where
-    by : (b : Bool) → (b || list_any is_graph ks) ≡ false → b ≡ false
-    by true e = absurd (true-false e)
-    by false e = refl
-
-after-none : (ks : List Key) → list_any is_graph ks ≡ false → begins_graph (after_names ks) ≡ false
-after-none [] e = refl
-after-none (k ∷ ks) e = by (is_id k || is_index k) (choice (is_graph k)) (λ e'. after-none ks e')
-  where
-    by : (b : Bool) → (is_graph k ≡ true) ⊎ (is_graph k ≡ false) → (list_any is_graph ks ≡ false → begins_graph (after_names ks) ≡ false) →
-        begins_graph (elim b [ true ↦ after_names ks | false ↦ k ∷ ks ]) ≡ false
-    by b (inl h) next = absurd (true-false (sym (ap (λ x. x || list_any is_graph ks) h) ∙ e))
-    by true (inr h) next = next (sym (ap (λ x. x || list_any is_graph ks) h) ∙ e)
-    by false (inr h) next = h
-
-role-none : (stand : Stand) (ks : List Key) → list_any is_graph ks ≡ false → is_graph_role Streaming stand ks ≡ false
-role-none root ks e = begins-none ks e
-role-none graph_entry ks e = after-none ks e
-role-none entry ks e = refl
-role-none elsewhere ks e = refl
-
-streaming-role : (base : Option Text) (library : Library) (p : Spot) (ms ns : Members) (i : Inside) → Reordered ms ns → list_any is_graph (entries (streaming base library) i own_member p.under ns) ≡ false →
-    is_graph_role Streaming (stand_of p.role.around) (entries (streaming base library) i own_member p.under ms)
-    ≡ is_graph_role Streaming (stand_of p.role.around) (entries (streaming base library) i own_member p.under ns)
-streaming-role base library p ms ns i r e =
-    let s = streaming base library in
-    let ks = entries s i own_member p.under ms in
-    let ls = entries s i own_member p.under ns in
-    role-none (stand_of p.role.around) ks (any-same is_graph ks ls (entries-same s i p.under ms ns r) ∙ e) ∙ sym (role-none (stand_of p.role.around) ls e)
-
-free-graph : (r : Result Inside Fault) (i : Inside) (its_entries : Inside → List Key) → HasNoGraph r its_entries → r ≡ Ok i → list_any is_graph (its_entries i) ≡ false
-free-graph r i its_entries h e = subst (λ x. HasNoGraph x its_entries) e h
+-- in streaming order
+decided-alike : (r q : Result Inside Fault) (i : Inside) (F G : Inside → Bool) → r ≡ Ok i → q ≡ Ok i → decided_bool r F ≡ decided_bool q G → F i ≡ G i
+decided-alike r q i F G e h same = sym (ap (λ x. decided_bool x F) e) ∙ (same ∙ ap (λ x. decided_bool x G) h)
 
 moved-in : (f : Parts → ℕ) (order : Order) (base : Option Text) (library : Library) (p : Spot) (at : ℕ) (ms ns : Members) → Reordered ms ns → HasNamesOnce ns →
     (let s : Settings = record { order = order; base = base; library = library } in
-    IsFree s p at ns → IsFaultless s p (object at ms) → IsFaultless s p (object at ns) → Alike f (walk s p (object at ms)) (walk s p (object at ns)))
-moved-in f Any base library p at ms ns r h free e e' =
+    AreReadAlike s p at ms ns → IsFaultless s p (object at ms) → IsFaultless s p (object at ns) → Alike f (walk s p (object at ms)) (walk s p (object at ns)))
+moved-in f Any base library p at ms ns r h alike e e' =
     let s = any_order base library in
-    moved-by f s p at ms ns r (decide-same base library p.context p.under (stand_of p.role.around) at ms ns r h) (λ i d. any-role base library p ms ns i r) e'
-moved-in f Streaming base library p at ms ns r h free e e' =
+    moved-by f s p at ms ns r (decide-same base library p.context p.under (stand_of p.role.around) at ms ns r h) (λ i d. any-role base library p at ms ns i r) e'
+moved-in f Streaming base library p at ms ns r h alike e e' =
     let s = streaming base library in
     let c = p.context in
     let stand = stand_of p.role.around in
-    moved-by f s p at ms ns r
-    (all-decide base library c p.under stand at ms free.0 e
+    let same : decide s c p.under stand at ms ≡ decide s c p.under stand at ns
+    = all-decide base library c p.under stand at ms e
     ∙ (ap (λ o. decide_by s c p.under stand at o (all_looks ms)) (context-same ms ns r h)
     ∙ (decide-by-same s c p.under stand at (any_context ns) (all_looks ms) (all_looks ns) (looks-same ms ns r) (λ b. kinds-same b ms ns r h)
-    ∙ sym (all-decide base library c p.under stand at ns free.0 e'))))
-    (λ i d. streaming-role base library p ms ns i r (free-graph (decide s c p.under stand at ns) i (λ i. entries s i own_member p.under ns) free.1 d))
+    ∙ sym (all-decide base library c p.under stand at ns e'))) in
+    moved-by f s p at ms ns r same
+    (λ i d. decided-alike (decide s c p.under stand at ms) (decide s c p.under stand at ns) i
+    (λ i. reads_as_graph s c p.under stand at i ms) (λ i. reads_as_graph s c p.under stand at i ns) (same ∙ d) d alike)
     e'
 
 pub members-move : MembersMove
-members-move s p at ms ns r h free e e' =
+members-move s p at ms ns r h alike e e' =
     same-set parts_eq (says s p (object at ms)) (says s p (object at ns))
-    (λ f. (moved-in f s.order s.base s.library p at ms ns r h free e e').0)
+    (λ f. (moved-in f s.order s.base s.library p at ms ns r h alike e e').0)

@@ -9,7 +9,7 @@ use Rattle.jl_defs.specs.Settings.{Settings, Under, property_of, Stand, elsewher
 use Rattle.jl_defs.specs.Keys.{Key, id, value, language, graph, list, set, key_of, is_id, is_value, is_language, is_graph, is_list, is_set, is_kind}
 use Rattle.jl_defs.specs.ObjectContexts.{Inside, decide}
 use Rattle.jl_defs.specs.ValueObjects.{all_with}
-use Rattle.jl_defs.specs.Kept.{own_member, if_key, entries_by, form_of, form_gives, nested_keys, nest_inside, has_any, gives, entries, nested_entries, reversed_entries}
+use Rattle.jl_defs.specs.Kept.{own_member, if_key, entries_by, form_of, form_keeps, nested_keys, nest_inside, has_any, keeps, entries, nested_entries, reversed_entries}
 use Rattle.jl_defs.specs.LateKeys.{if_so, late_contexts, late_members}
 use Rattle.jl_defs.specs.MemberFaults.{Seen, nothing_seen, collides, key_faults, closing_faults}
 use Rattle.jl_defs.specs.Faults.{decided_faults, place, see, value_faults, members_faults}
@@ -111,7 +111,7 @@ unfolding entries
 entry-there test under t s i a n v e =
     any-left test _ []
     (ap (λ k. list_any test (entries_by k under
-    (λ _. form_gives (form_of (term i.final n) v) (λ _. gives s i.final (property_of n) elsewhere v))
+    (λ _. form_keeps (form_of (term i.final n) v) (λ _. keeps s i.final (property_of n) elsewhere v))
     (λ _. nested_keys (nest_inside s i n) (λ j. nested_entries s j under v))
     (λ _. has_any (reversed_entries s i.final v)))) (t.only (key_of i.final n) e)
     ∙ (ap (list_any test) (t.entry _ _ _) ∙ ap (λ b. b || false) t.is_the_key))

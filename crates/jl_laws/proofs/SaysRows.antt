@@ -247,12 +247,25 @@ row_48 : walked (settings Any None []) (object 0 (member 1 (codes "@context") (o
 unfolding walked
 row_48 = refl
 
--- {"@context":{"T":{"@id":"http://a/T","@context":{"i":"@id","q":"http://t/q"}},"p":{"@id":"http://a/p","@context":{"i":"http://x/i"}},"q":"http://a/q"},"@id":"http://a/s","@type":"T","p":{"i":{"@id":"http://a/o"},"q":"x"}}: the two orders give different quads
-row_49 : walked (settings Any None []) (object 0 (member 1 (codes "@context") (object 12 (member 13 (codes "T") (object 17 (member 18 (codes "@id") (scalar 24 (Str (codes "http://a/T"))) (member 37 (codes "@context") (object 48 (member 49 (codes "i") (scalar 53 (Str (codes "@id"))) (member 59 (codes "q") (scalar 63 (Str (codes "http://t/q"))) no_member))) no_member))) (member 78 (codes "p") (object 82 (member 83 (codes "@id") (scalar 89 (Str (codes "http://a/p"))) (member 102 (codes "@context") (object 113 (member 114 (codes "i") (scalar 118 (Str (codes "http://x/i"))) no_member)) no_member))) (member 133 (codes "q") (scalar 137 (Str (codes "http://a/q"))) no_member)))) (member 151 (codes "@id") (scalar 157 (Str (codes "http://a/s"))) (member 170 (codes "@type") (scalar 178 (Str (codes "T"))) (member 182 (codes "p") (object 186 (member 187 (codes "i") (object 191 (member 192 (codes "@id") (scalar 198 (Str (codes "http://a/o"))) no_member)) (member 212 (codes "q") (scalar 216 (Str (codes "x"))) no_member))) no_member))))) (codes "<http://a/s> <http://a/p> _:jlb186 .\n" ∷ codes "<http://a/s> <http://www.w3.org/1999/02/22-rdf-syntax-ns#type> <http://a/T> .\n" ∷ codes "_:jlb186 <http://a/q> \"x\" .\n" ∷ codes "_:jlb186 <http://x/i> <http://a/o> .\n" ∷ []) ≡ true
+-- {"@context":{"b":"@index","t":"@type","g":{"@id":"http://a/g","@container":["@graph","@index"]},"T":{"@id":"http://a/T","@context":{"b":"@graph","t":null}}},"@id":"http://a/s","g":{"k":{"t":"T","b":"x","u":1}}}
+-- In streaming order only the rest of an item of a graph map tells whether it is used as it is. Here `b` means `@graph`
+-- and stands before the rest, so the item is in a graph of its own.
+row_49 : walked (settings Streaming None []) (object 0 (member 1 (codes "@context") (object 12 (member 13 (codes "b") (scalar 17 (Str (codes "@index"))) (member 26 (codes "t") (scalar 30 (Str (codes "@type"))) (member 38 (codes "g") (object 42 (member 43 (codes "@id") (scalar 49 (Str (codes "http://a/g"))) (member 62 (codes "@container") (array 75 (item (scalar 76 (Str (codes "@graph"))) (item (scalar 85 (Str (codes "@index"))) no_item))) no_member))) (member 96 (codes "T") (object 100 (member 101 (codes "@id") (scalar 107 (Str (codes "http://a/T"))) (member 120 (codes "@context") (object 131 (member 132 (codes "b") (scalar 136 (Str (codes "@graph"))) (member 145 (codes "t") (scalar 149 Null) no_member))) no_member))) no_member))))) (member 157 (codes "@id") (scalar 163 (Str (codes "http://a/s"))) (member 176 (codes "g") (object 180 (member 181 (codes "k") (object 185 (member 186 (codes "t") (scalar 190 (Str (codes "T"))) (member 194 (codes "b") (scalar 198 (Str (codes "x"))) (member 202 (codes "u") (scalar 206 (Number (codes "1"))) no_member)))) no_member)) no_member)))) (codes "<http://a/s> <http://a/g> _:jlg185 .\n" ∷ []) ≡ true
 unfolding walked
 row_49 = refl
 
--- the same document
-row_50 : walked (settings Streaming None []) (object 0 (member 1 (codes "@context") (object 12 (member 13 (codes "T") (object 17 (member 18 (codes "@id") (scalar 24 (Str (codes "http://a/T"))) (member 37 (codes "@context") (object 48 (member 49 (codes "i") (scalar 53 (Str (codes "@id"))) (member 59 (codes "q") (scalar 63 (Str (codes "http://t/q"))) no_member))) no_member))) (member 78 (codes "p") (object 82 (member 83 (codes "@id") (scalar 89 (Str (codes "http://a/p"))) (member 102 (codes "@context") (object 113 (member 114 (codes "i") (scalar 118 (Str (codes "http://x/i"))) no_member)) no_member))) (member 133 (codes "q") (scalar 137 (Str (codes "http://a/q"))) no_member)))) (member 151 (codes "@id") (scalar 157 (Str (codes "http://a/s"))) (member 170 (codes "@type") (scalar 178 (Str (codes "T"))) (member 182 (codes "p") (object 186 (member 187 (codes "i") (object 191 (member 192 (codes "@id") (scalar 198 (Str (codes "http://a/o"))) no_member)) (member 212 (codes "q") (scalar 216 (Str (codes "x"))) no_member))) no_member))))) (codes "<http://a/s> <http://a/p> _:jlb186 .\n" ∷ codes "<http://a/s> <http://www.w3.org/1999/02/22-rdf-syntax-ns#type> <http://a/T> .\n" ∷ codes "_:jlb186 <http://t/q> \"x\" .\n" ∷ codes "_:jlb186 <http://x/i> <http://a/o> .\n" ∷ []) ≡ true
+-- {"@context":{"b":"@index","t":"@type","g":{"@id":"http://a/g","@container":["@graph","@index"]},"T":{"@id":"http://a/T","@context":{"b":"@graph","t":null}}},"@id":"http://a/s","g":{"k":{"t":"T","u":1,"b":"x"}}}
+-- The same members in another order: here `b` stands in the rest, so the item is the graph. Without faults, the order of
+-- members in an item of a graph map can so change what is said, in streaming order.
+row_50 : walked (settings Streaming None []) (object 0 (member 1 (codes "@context") (object 12 (member 13 (codes "b") (scalar 17 (Str (codes "@index"))) (member 26 (codes "t") (scalar 30 (Str (codes "@type"))) (member 38 (codes "g") (object 42 (member 43 (codes "@id") (scalar 49 (Str (codes "http://a/g"))) (member 62 (codes "@container") (array 75 (item (scalar 76 (Str (codes "@graph"))) (item (scalar 85 (Str (codes "@index"))) no_item))) no_member))) (member 96 (codes "T") (object 100 (member 101 (codes "@id") (scalar 107 (Str (codes "http://a/T"))) (member 120 (codes "@context") (object 131 (member 132 (codes "b") (scalar 136 (Str (codes "@graph"))) (member 145 (codes "t") (scalar 149 Null) no_member))) no_member))) no_member))))) (member 157 (codes "@id") (scalar 163 (Str (codes "http://a/s"))) (member 176 (codes "g") (object 180 (member 181 (codes "k") (object 185 (member 186 (codes "t") (scalar 190 (Str (codes "T"))) (member 194 (codes "u") (scalar 198 (Number (codes "1"))) (member 200 (codes "b") (scalar 204 (Str (codes "x"))) no_member)))) no_member)) no_member)))) (codes "<http://a/s> <http://a/g> _:jlb185 .\n" ∷ []) ≡ true
 unfolding walked
 row_50 = refl
+
+-- in the order any both say the same
+row_51 : walked (settings Any None []) (object 0 (member 1 (codes "@context") (object 12 (member 13 (codes "b") (scalar 17 (Str (codes "@index"))) (member 26 (codes "t") (scalar 30 (Str (codes "@type"))) (member 38 (codes "g") (object 42 (member 43 (codes "@id") (scalar 49 (Str (codes "http://a/g"))) (member 62 (codes "@container") (array 75 (item (scalar 76 (Str (codes "@graph"))) (item (scalar 85 (Str (codes "@index"))) no_item))) no_member))) (member 96 (codes "T") (object 100 (member 101 (codes "@id") (scalar 107 (Str (codes "http://a/T"))) (member 120 (codes "@context") (object 131 (member 132 (codes "b") (scalar 136 (Str (codes "@graph"))) (member 145 (codes "t") (scalar 149 Null) no_member))) no_member))) no_member))))) (member 157 (codes "@id") (scalar 163 (Str (codes "http://a/s"))) (member 176 (codes "g") (object 180 (member 181 (codes "k") (object 185 (member 186 (codes "t") (scalar 190 (Str (codes "T"))) (member 194 (codes "b") (scalar 198 (Str (codes "x"))) (member 202 (codes "u") (scalar 206 (Number (codes "1"))) no_member)))) no_member)) no_member)))) (codes "<http://a/s> <http://a/g> _:jlb185 .\n" ∷ []) ≡ true
+unfolding walked
+row_51 = refl
+
+row_52 : walked (settings Any None []) (object 0 (member 1 (codes "@context") (object 12 (member 13 (codes "b") (scalar 17 (Str (codes "@index"))) (member 26 (codes "t") (scalar 30 (Str (codes "@type"))) (member 38 (codes "g") (object 42 (member 43 (codes "@id") (scalar 49 (Str (codes "http://a/g"))) (member 62 (codes "@container") (array 75 (item (scalar 76 (Str (codes "@graph"))) (item (scalar 85 (Str (codes "@index"))) no_item))) no_member))) (member 96 (codes "T") (object 100 (member 101 (codes "@id") (scalar 107 (Str (codes "http://a/T"))) (member 120 (codes "@context") (object 131 (member 132 (codes "b") (scalar 136 (Str (codes "@graph"))) (member 145 (codes "t") (scalar 149 Null) no_member))) no_member))) no_member))))) (member 157 (codes "@id") (scalar 163 (Str (codes "http://a/s"))) (member 176 (codes "g") (object 180 (member 181 (codes "k") (object 185 (member 186 (codes "t") (scalar 190 (Str (codes "T"))) (member 194 (codes "u") (scalar 198 (Number (codes "1"))) (member 200 (codes "b") (scalar 204 (Str (codes "x"))) no_member)))) no_member)) no_member)))) (codes "<http://a/s> <http://a/g> _:jlb185 .\n" ∷ []) ≡ true
+unfolding walked
+row_52 = refl

@@ -14,7 +14,7 @@ use Rattle.jl_defs.specs.Reported.{reported}
 use Rattle.jl_defs.specs.Documents.{IsReported}
 use Rattle.jl_laws.specs.Spots.{Spot}
 use Rattle.jl_laws.specs.Says.{says, root_spot}
-use Rattle.jl_laws.specs.Reordering.{Reordered, HasNamesOnce, IsFaultless, IsFree}
+use Rattle.jl_laws.specs.Reordering.{Reordered, HasNamesOnce, IsFaultless, AreReadAlike}
 
 -- in streaming order a fault that is reported for what has been read is a fault of every tree that goes on from it
 abbrev pub FaultsStayBy : (Settings → Open → List Fault) → Type 0
@@ -41,7 +41,7 @@ SaysDataset = SaysDatasetBy says
 -- the order of an object's members doesn't change what it says, where neither order has faults
 abbrev pub MembersMoveBy : (Settings → Spot → Tree → List Parts) → Type 0
 MembersMoveBy walk =
-    (s : Settings) (p : Spot) (at : ℕ) (ms ns : Members) → Reordered ms ns → HasNamesOnce ns → IsFree s p at ns →
+    (s : Settings) (p : Spot) (at : ℕ) (ms ns : Members) → Reordered ms ns → HasNamesOnce ns → AreReadAlike s p at ms ns →
     IsFaultless s p (object at ms) → IsFaultless s p (object at ns) → SameSet (walk s p (object at ms)) (walk s p (object at ns))
 
 abbrev pub MembersMove : Type 0

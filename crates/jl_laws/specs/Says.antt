@@ -20,7 +20,7 @@ use Rattle.jl_defs.specs.ObjectContexts.{Inside, decide, property_context}
 use Rattle.jl_defs.specs.Values.{value_of}
 use Rattle.jl_defs.specs.ValueObjects.{expand_type, value_object as value_of_object, unless_refused, json_value}
 use Rattle.jl_defs.specs.Kept.{Role, own_member, nested_member, reversed_member, is_admitted, Form, json_form, language_form, map_form, plain_form, form_of, nest_inside, scalar_gives, value_gives, gives, entries, is_list_object}
-use Rattle.jl_defs.specs.Graphs.{Shape, value_object, list_object, set_object, language_alone, graph_alone, node_object, shape_of}
+use Rattle.jl_defs.specs.Graphs.{Shape, value_object, list_object, set_object, language_alone, graph_alone, node_object, reads_as_graph, shape_of}
 use Rattle.jl_defs.specs.Maps.{addition, entry_context, language_key, language_string}
 use Rattle.jl_defs.specs.NodeMap.{term_of_text, graph_of, rdf_type}
 use Rattle.jl_defs.specs.Dataset.{Head, link, term_of_value}
@@ -175,7 +175,7 @@ unfoldable mutual
   walk s p (array at xs) = walk_all s (moved p (inside p.role.around) p.head) xs
   walk s p (object at ms) =
       decided_says p.head (decide s p.context p.under (stand_of p.role.around) at ms)
-      (λ i. object_says (shape_of s.order (stand_of p.role.around) (entries s i own_member p.under ms)) p i at ms
+      (λ i. object_says (shape_of (reads_as_graph s p.context p.under (stand_of p.role.around) at i ms) (entries s i own_member p.under ms)) p i at ms
       (λ hanging h. walk_key s i is_list (spot i.final p.under ordinary hanging h) ms)
       (λ _. walk_key s i is_set (spot i.final p.under (inside p.role.around) p.role.hanging p.head) ms)
       (λ _. walk_key s i is_graph (spot i.final graph_property ordinary p.role.hanging p.head) ms)
