@@ -25,7 +25,7 @@ use Rattle.jl_engine.specs.declared.stops.Stop.{Stop}
 use Rattle.jl_engine.specs.declared.stops.Stop.TheVariants.{Refused, OutFault, NoMemory}
 use Rattle.jl_engine.proofs.Consequences.{sure, sure-longer, grows}
 use Rattle.jl_engine.proofs.Endings.{end-quiet}
-use Rattle.jl_engine.proofs.Feeding.{put-none, run-stands, byte-refused, byte-stopped, facts-refused, puts-stopped, fed-by, end-refused, end-stopped, end-facts-refused, ended}
+use Rattle.jl_engine.proofs.Feeding.{put-none, run-stands, byte-refused, nothing-left, byte-stopped, facts-refused, puts-stopped, fed-by, end-refused, end-stopped, end-facts-refused, ended}
 use Rattle.jl_frames.proofs.StreamRun.{stream-says, stream-refuses}
 
 -- the facts that tokens tell an engine
@@ -87,11 +87,11 @@ byte-unsaid s bytes quads byte tokens stop old new lexer told tells selects h ta
       piece_is = refl;
       count = count ∙ (ap (λ n. n + 1) h.count ∙ sym (length-append bytes (byte ∷ [])));
       more = [];
-      sure = subst (λ q. AreSure s (bytes ++ byte ∷ []) q) (sym (append-nil quads)) (sure-longer s bytes (byte ∷ []) quads (sure-now s bytes quads old h));
+      left = nothing-left stream-says stream-refuses s bytes quads byte stop old h;
       put = subst (WerePut told tells selects) e put;
       cause = cause;
     }
-    by front (inr (back, stack, e)) put = puts-stopped stream-says stream-refuses s bytes quads byte tokens front back stop old new lexer stack told tells selects h takes e count put cause
+    by front (inr (back, stack, e)) put = puts-stopped stream-says stream-refuses s bytes quads byte tokens front back stop old new lexer stack told tells selects h takes e count put cause stops
 
 -- ---- the end
 
@@ -124,7 +124,7 @@ pub end-unsaid : (s : Settings) (bytes : List ℕ) (quads : List Parts) (token :
 end-unsaid s bytes quads token tokens stop old told tells selects h ends number same some stops =
     record {
       more = [];
-      sure = subst (λ q. AreSure s bytes q) (sym (append-nil quads)) (sure-now s bytes quads old h);
+      said = (old, subst (λ q. Stands s bytes q old) (sym (append-nil quads)) h);
       put = subst (WerePut told tells selects) (none some.front some.first) some.put;
       cause = unsaid-end s bytes quads token stop old h ends (subst (λ ts. StopsSaying (facts_at old ts) old.stack stop) same stops);
     }
@@ -146,7 +146,7 @@ nothing-read s bytes quads piece old new told selects h same =
       piece_is = refl;
       count = same ∙ (h.count ∙ ap length (sym (append-nil bytes)));
       more = [];
-      sure = subst (λ b. AreSure s b (quads ++ [])) (sym (append-nil bytes)) (subst (λ q. AreSure s bytes q) (sym (append-nil quads)) (sure-now s bytes quads old h));
+      left = subst (λ b. AreSure s b (quads ++ [])) (sym (append-nil bytes)) (subst (λ q. AreSure s bytes q) (sym (append-nil quads)) (sure-now s bytes quads old h));
       put = put-none told told selects (λ all t. t);
       cause = tt;
     }
@@ -178,7 +178,7 @@ stopped-there s bytes quads piece stop old new told tells selects same b = recor
   piece_is = b.piece_is;
   count = same ∙ b.count;
   more = b.more;
-  sure = b.sure;
+  left = b.left;
   put = b.put;
   cause = b.cause;
 }

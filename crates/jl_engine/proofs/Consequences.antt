@@ -6,6 +6,7 @@ use Rattle.jl_model.specs.JsonText.{Reads}
 use Rattle.jl_model.specs.declared.faults.Fault.{Fault}
 use Rattle.jl_model.specs.declared.orders.Order.TheVariants.{Streaming}
 use Rattle.jl_model.specs.declared.tokens.Token.{Token}
+use Rattle.jl_token.proofs.OneReading.{one_reading}
 use Rattle.jl_token.specs.Lexed as lexed
 use Rattle.jl_token.specs.Lexed.{IsFront}
 use Rattle.jl_token.proofs.LexerCalls.{relation}
@@ -101,11 +102,21 @@ faulty-end refuse s bytes tree given f o read e = by (is_not_yet f.code) refl
 
     by : (b : Bool) → is_not_yet f.code ≡ b → EndRefusal s bytes f
     by true y =
-        form_at_end tree (given, read) (not-yet-is f.code y)
-        (later-place s tree f y (subst (λ fs. Has fs (refuses f)) (sym facts-are) (tell-not-yet (told_of (initial s.base) given).0 start f refl y e)))
+        form_at_end (record {
+          tree = tree;
+          reads = (given, read);
+          code_is = not-yet-is f.code y;
+          stands = λ t r. subst (λ t. Has (later_forms s t) f.at) (one_reading 0 bytes tree t given r.0 read r.1).0
+              (later-place s tree f y (subst (λ fs. Has fs (refuses f)) (sym facts-are) (tell-not-yet (told_of (initial s.base) given).0 start f refl y e)));
+        })
     by false y =
-        fault_at_end tree (given, read) (not-later s tree f y (refuse s tree f o
-        (ap (λ fs. (run fs start).stopped) (facts-are ∙ sym (append-nil (told_of (initial s.base) given).0)) ∙ tell-stops (told_of (initial s.base) given).0 [] start f e)))
+        fault_at_end (record {
+          tree = tree;
+          reads = (given, read);
+          faulty = λ t r. subst (λ t. Has (faults s t) f) (one_reading 0 bytes tree t given r.0 read r.1).0
+              (not-later s tree f y (refuse s tree f o
+              (ap (λ fs. (run fs start).stopped) (facts-are ∙ sym (append-nil (told_of (initial s.base) given).0)) ∙ tell-stops (told_of (initial s.base) given).0 [] start f e)));
+        })
 
 -- ---- the end
 

@@ -20,14 +20,18 @@ use Rattle.jl_defs.specs.Settings.{Settings}
 use Rattle.jl_context.specs.Contexts.{context_of}
 use Rattle.jl_frames.specs.declared.states.StackState.{StackState}
 use Rattle.jl_frames.specs.Streamed.{tell}
+use Rattle.jl_frames.specs.Machine.{Step}
+use Rattle.jl_frames.specs.Facts.{Fact}
 use Rattle.jl_frames.specs.Laws.{StreamRefuses, StreamSays}
 use Rattle.jl_engine.specs.Translation.{events_step}
 use Rattle.jl_engine.specs.TreeEvents.{events_of}
-use Rattle.jl_engine.specs.Standing.{Stands, AreSure, WerePut, Fed, Refusal, Cause, Stopped, Finished, EndRefusal, EndCause, StoppedAtEnd}
+use Rattle.jl_engine.specs.Standing.{Stands, AreSure, AreLeft, WerePut, Fed, Refusal, Cause, Stopped, Finished, EndRefusal, EndCause, StoppedAtEnd}
+use Rattle.jl_engine.specs.Saying.{StopsSaying}
 use Rattle.jl_engine.specs.Standing.Refusal.{by_text, by_length}
 use Rattle.jl_engine.specs.Standing.EndRefusal.{by_end}
 use Rattle.jl_engine.specs.declared.engines.EngineState.{EngineState}
 use Rattle.jl_engine.specs.declared.stops.Stop.{Stop}
+use Rattle.jl_engine.specs.declared.stops.Stop.TheVariants.{Refused, OutFault, NoMemory}
 use Rattle.jl_engine.proofs.Continuing.{told-more, told-stops}
 use Rattle.jl_engine.proofs.Consequences.{sure-longer, sure-front, sure-told, sure, faulty, faulty-end, finished}
 
@@ -143,7 +147,7 @@ stopped-more s bytes quads xs ys zs stop e1 e2 t0 t1 t2 s0 s1 same a b =
       piece_is = ap (λ y. xs ++ (y ++ zs)) b.piece_is ∙ (ap (λ y. xs ++ y) (append_assoc b.front b.back zs) ∙ sym (append_assoc xs b.front (b.back ++ zs)));
       count = b.count ∙ ap length front;
       more = a.more ++ b.more;
-      sure = subst (λ q. AreSure s (bytes ++ (xs ++ b.front)) q) (append_assoc quads a.more b.more) (subst (λ x. AreSure s x ((quads ++ a.more) ++ b.more)) front b.sure);
+      left = subst (λ q. AreLeft s (bytes ++ (xs ++ b.front)) q stop) (append_assoc quads a.more b.more) (subst (λ x. AreLeft s x ((quads ++ a.more) ++ b.more) stop) front b.left);
       put = put-both t0 t1 t2 s0 s1 a.more b.more same a.put b.put;
       cause = subst (λ x. Cause s x stop) front b.cause;
     }
@@ -157,7 +161,7 @@ stopped-wide s bytes quads ys zs stop e told tells selects b = record {
   piece_is = ap (λ y. y ++ zs) b.piece_is ∙ append_assoc b.front b.back zs;
   count = b.count;
   more = b.more;
-  sure = b.sure;
+  left = b.left;
   put = b.put;
   cause = b.cause;
 }
@@ -177,6 +181,13 @@ part-stopped s bytes quads piece at stop e1 e2 t0 t1 t2 s0 s1 same a b =
 
 -- ---- with the two laws of the stack
 module _ (says : StreamSays) (refuse : StreamRefuses) where
+  -- what is left where nothing of the byte was put
+  pub nothing-left : (s : Settings) (bytes : List ℕ) (quads : List Parts) (byte : ℕ) (stop : Stop) (old : EngineState) → Stands s bytes quads old → AreLeft s (bytes ++ byte ∷ []) (quads ++ []) stop
+  nothing-left s bytes quads byte (Refused f) old h =
+      record { front = bytes; byte = byte; bytes_are = refl; said = (old, subst (λ q. Stands s bytes q old) (sym (append-nil quads)) h) }
+  nothing-left s bytes quads byte OutFault old h = subst (λ q. AreSure s (bytes ++ byte ∷ []) q) (sym (append-nil quads)) (sure-longer s bytes (byte ∷ []) quads (sure says refuse s bytes quads old h))
+  nothing-left s bytes quads byte NoMemory old h = subst (λ q. AreSure s (bytes ++ byte ∷ []) q) (sym (append-nil quads)) (sure-longer s bytes (byte ∷ []) quads (sure says refuse s bytes quads old h))
+
   -- nothing of the byte was put
   pub byte-stopped : (s : Settings) (bytes : List ℕ) (quads : List Parts) (byte : ℕ) (stop : Stop) (old new : EngineState) (told : List Parts → Type 0) (selects : Parts → Bool) → Stands s bytes quads old →
       new.bytes ≡ old.bytes + 1 → Cause s (bytes ++ byte ∷ []) stop → Stopped s bytes quads (byte ∷ []) stop new told told selects
@@ -186,7 +197,7 @@ module _ (says : StreamSays) (refuse : StreamRefuses) where
     piece_is = refl;
     count = count ∙ (ap (λ n. n + 1) h.count ∙ sym (length-append bytes (byte ∷ [])));
     more = [];
-    sure = subst (λ q. AreSure s (bytes ++ byte ∷ []) q) (sym (append-nil quads)) (sure-longer s bytes (byte ∷ []) quads (sure says refuse s bytes quads old h));
+    left = nothing-left s bytes quads byte stop old h;
     put = put-none told told selects (λ all t. t);
     cause = cause;
   }
@@ -198,11 +209,19 @@ module _ (says : StreamSays) (refuse : StreamRefuses) where
       faulty refuse s (bytes ++ byte ∷ []) (h.tokens ++ tokens) fault h.streaming (relation 0 (bytes ++ byte ∷ []) (h.tokens ++ tokens) lexer (takes 0 bytes h.tokens h.lexer))
       (told-stops (initial s.base) h.tokens tokens old.cursor quads old.stack fault h.cursor h.told (ap (λ x. tell (events_step x (events_of tokens) old.cursor).0 old.stack) (sym h.context) ∙ e))
 
+  -- facts that are told aren't refused, so only the out or memory stopped what they say
+  some-left : (s : Settings) (bytes : List ℕ) (quads : List Parts) (stop : Stop) (told_quads : List Parts) (stack : StackState) (facts : List Fact) (old : StackState) → AreSure s bytes quads →
+      tell facts old ≡ Ok (told_quads, stack) → StopsSaying facts old stop → AreLeft s bytes quads stop
+  some-left s bytes quads (Refused f) told_quads stack facts old h e stops = absurd (let no : ◌≡◌ {A = Step} (Ok (told_quads, stack)) (Err f) = sym e ∙ stops in cc)
+  some-left s bytes quads OutFault told_quads stack facts old h e stops = h
+  some-left s bytes quads NoMemory told_quads stack facts old h e stops = h
+
   -- some of the byte's quads were put
   pub puts-stopped : (s : Settings) (bytes : List ℕ) (quads : List Parts) (byte : ℕ) (tokens : List Token) (front back : List Parts) (stop : Stop) (old new : EngineState) (lexer : LexState) (stack : StackState) (told tells : List Parts → Type 0) (selects : Parts → Bool) →
       Stands s bytes quads old → lexed.Takes old.lexer lexer byte tokens → tell (events_step (context_of old.context) (events_of tokens) old.cursor).0 old.stack ≡ Ok (front ++ back, stack) →
-      new.bytes ≡ old.bytes + 1 → WerePut told tells selects front → Cause s (bytes ++ byte ∷ []) stop → Stopped s bytes quads (byte ∷ []) stop new told tells selects
-  puts-stopped s bytes quads byte tokens front back stop old new lexer stack told tells selects h takes e count put cause =
+      new.bytes ≡ old.bytes + 1 → WerePut told tells selects front → Cause s (bytes ++ byte ∷ []) stop → StopsSaying (events_step (context_of old.context) (events_of tokens) old.cursor).0 old.stack stop →
+      Stopped s bytes quads (byte ∷ []) stop new told tells selects
+  puts-stopped s bytes quads byte tokens front back stop old new lexer stack told tells selects h takes e count put cause stops =
       let all = told-more (initial s.base) h.tokens tokens old.cursor quads (front ++ back) old.stack stack h.cursor h.told (ap (λ x. tell (events_step x (events_of tokens) old.cursor).0 old.stack) (sym h.context) ∙ e) in
       record {
         front = byte ∷ [];
@@ -210,9 +229,11 @@ module _ (says : StreamSays) (refuse : StreamRefuses) where
         piece_is = refl;
         count = count ∙ (ap (λ n. n + 1) h.count ∙ sym (length-append bytes (byte ∷ [])));
         more = front;
-        sure = sure-front s (bytes ++ byte ∷ []) (quads ++ front) back
+        left = some-left s (bytes ++ byte ∷ []) (quads ++ front) stop (front ++ back) stack _ old.stack
+            (sure-front s (bytes ++ byte ∷ []) (quads ++ front) back
             (subst (λ q. AreSure s (bytes ++ byte ∷ []) q) (sym (append_assoc quads front back))
-            (sure-told says refuse s (bytes ++ byte ∷ []) (h.tokens ++ tokens) (quads ++ (front ++ back)) stack h.streaming (relation 0 (bytes ++ byte ∷ []) (h.tokens ++ tokens) lexer (takes 0 bytes h.tokens h.lexer)) all));
+            (sure-told says refuse s (bytes ++ byte ∷ []) (h.tokens ++ tokens) (quads ++ (front ++ back)) stack h.streaming (relation 0 (bytes ++ byte ∷ []) (h.tokens ++ tokens) lexer (takes 0 bytes h.tokens h.lexer)) all)))
+            e stops;
         put = put;
         cause = cause;
       }
@@ -243,7 +264,7 @@ module _ (says : StreamSays) (refuse : StreamRefuses) where
       StoppedAtEnd s bytes quads stop told told selects
   end-stopped s bytes quads stop old told selects h cause = record {
     more = [];
-    sure = subst (λ q. AreSure s bytes q) (sym (append-nil quads)) (sure says refuse s bytes quads old h);
+    said = (old, subst (λ q. Stands s bytes q old) (sym (append-nil quads)) h);
     put = put-none told told selects (λ all t. t);
     cause = cause;
   }

@@ -45,6 +45,17 @@ IsWithinStage s t = later_forms s t ≡ []
 abbrev pub AreSure : Settings → List ℕ → List Parts → Type 0
 AreSure s bytes quads = (rest : List ℕ) (t : Tree) → ReadsAs (bytes ++ rest) t → AcceptsTree s t → IsWithinStage s t → IsWithin quads (dataset s t)
 
+-- the bytes say these quads so far: an engine that was fed just them has told these
+abbrev pub AreSaid : Settings → List ℕ → List Parts → Type 0
+AreSaid s bytes quads = (e : EngineState) × Stands s bytes quads e
+
+-- the bytes before the last one say these quads
+pub record AreSaidBefore (s : Settings) (bytes : List ℕ) (quads : List Parts) : Type 0 where
+  pub front : List ℕ
+  pub byte : ℕ
+  pub bytes_are : bytes ≡ front ++ byte ∷ []
+  pub said : AreSaid s front quads
+
 -- these quads were put: an out that told some tells those of them too that pass its test
 abbrev pub WerePut : (List Parts → Type 0) → (List Parts → Type 0) → (Parts → Bool) → List Parts → Type 0
 WerePut told tells selects quads = (all : List Parts) → told all → tells (all ++ filter selects quads)
@@ -95,14 +106,21 @@ Cause s bytes (stops.Refused f) = Refusal s bytes f
 Cause s bytes stops.OutFault = Unit {0}
 Cause s bytes stops.NoMemory = Unit {0}
 
--- a byte of a piece stopped the engine, and some of the quads that the bytes make sure were put
+-- what was put for bytes that stopped the engine: where their last byte is refused, all that those before it say;
+-- where the out failed or memory was short, quads that are sure
+abbrev pub AreLeft : Settings → List ℕ → List Parts → Stop → Type 0
+AreLeft s bytes quads (stops.Refused f) = AreSaidBefore s bytes quads
+AreLeft s bytes quads stops.OutFault = AreSure s bytes quads
+AreLeft s bytes quads stops.NoMemory = AreSure s bytes quads
+
+-- a byte of a piece stopped the engine
 pub record Stopped (s : Settings) (bytes : List ℕ) (quads : List Parts) (piece : List ℕ) (stop : Stop) (e : EngineState) (told tells : List Parts → Type 0) (selects : Parts → Bool) : Type 0 where
   pub front : List ℕ
   pub back : List ℕ
   pub piece_is : piece ≡ front ++ back
   pub count : e.bytes ≡ length (bytes ++ front)
   pub more : List Parts
-  pub sure : AreSure s (bytes ++ front) (quads ++ more)
+  pub left : AreLeft s (bytes ++ front) (quads ++ more) stop
   pub put : WerePut told tells selects more
   pub cause : Cause s (bytes ++ front) stop
 
@@ -117,20 +135,33 @@ pub record Finished (s : Settings) (bytes : List ℕ) (quads : List Parts) (told
   pub sure : AreSure s bytes (quads ++ more)
   pub put : WerePut told tells selects more
 
--- why the end stops the engine: the bytes are no readable text, or are one with this fault, or one that has a form there which isn't built
+-- the bytes are a readable text, and as whichever tree they are read, it has this fault
+pub record IsFaultyWhole (s : Settings) (bytes : List ℕ) (f : Fault) : Type 0 where
+  pub tree : Tree
+  pub reads : ReadsAs bytes tree
+  pub faulty : (t : Tree) → ReadsAs bytes t → Has (faults s t) f
+
+-- the same of a form there that isn't built
+pub record IsNotBuiltWhole (s : Settings) (bytes : List ℕ) (f : Fault) : Type 0 where
+  pub tree : Tree
+  pub reads : ReadsAs bytes tree
+  pub code_is : f.code ≡ NotYet
+  pub stands : (t : Tree) → ReadsAs bytes t → Has (later_forms s t) f.at
+
+-- why the end stops the engine: the bytes are no readable text, or one with this fault, or with a form that isn't built
 pub data EndRefusal (s : Settings) (bytes : List ℕ) (f : Fault) : Type 0 where
   by_end : IsTruncated 0 bytes f → EndRefusal s bytes f
-  by_fault : (t : Tree) → ReadsAs bytes t → Has (faults s t) f → EndRefusal s bytes f
-  by_form : (t : Tree) → ReadsAs bytes t → (f.code ≡ NotYet) → Has (later_forms s t) f.at → EndRefusal s bytes f
+  by_fault : IsFaultyWhole s bytes f → EndRefusal s bytes f
+  by_form : IsNotBuiltWhole s bytes f → EndRefusal s bytes f
 
 abbrev pub EndCause : Settings → List ℕ → Stop → Type 0
 EndCause s bytes (stops.Refused f) = EndRefusal s bytes f
 EndCause s bytes stops.OutFault = Unit {0}
 EndCause s bytes stops.NoMemory = Unit {0}
 
--- the end stopped the engine
+-- the end stopped the engine, and all that the bytes say was put
 pub record StoppedAtEnd (s : Settings) (bytes : List ℕ) (quads : List Parts) (stop : Stop) (told tells : List Parts → Type 0) (selects : Parts → Bool) : Type 0 where
   pub more : List Parts
-  pub sure : AreSure s bytes (quads ++ more)
+  pub said : AreSaid s bytes (quads ++ more)
   pub put : WerePut told tells selects more
   pub cause : EndCause s bytes stop

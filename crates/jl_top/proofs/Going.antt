@@ -1,25 +1,28 @@
 -- What the loop over the pieces has done, and how it ends.
-use Rattle.std.proofs.Common.{◌≡◌, ◌<◌, ◌≤◌, ℕ, ◌+◌, ◌-◌, ◌^◌, min, nat_lt, Bool, true, false, List, [], ◌++◌, length, refl, sym, ap, ◌∙◌, subst, arith, append_assoc, append-nil, length-append, Option, Some, None, Result, Ok, Err, IsErrOf, ◌⊎◌, inl, inr}
-use Rattle.std.proofs.lemmas.Bool.{ltb-true}
+use Rattle.std.proofs.Common.{◌≡◌, ◌<◌, ◌≤◌, ℕ, ◌+◌, ◌-◌, ◌^◌, min, nat_lt, Bool, true, false, List, [], ◌∷◌, ◌++◌, length, refl, sym, ap, ◌∙◌, subst, arith, append_assoc, append-nil, length-append, Option, Some, None, Result, Ok, Err, IsErrOf, ◌⊎◌, inl, inr}
+use Rattle.std.proofs.lemmas.Bool.{ltb-true, ltb-false}
 use Rattle.std.specs.Option.{IfSome}
 use Rattle.jl_io.specs.Outside.{appended, Leaves, NoneLeft}
 use Rattle.jl_model.specs.Causes.{Rose}
 use Rattle.jl_model.specs.Parts.{Parts}
 use Rattle.jl_model.specs.declared.faults.Fault.{Fault}
 use Rattle.jl_defs.specs.Settings.{Settings}
-use Rattle.jl_engine.specs.Standing.{Stands, AreSure, EndCause}
+use Rattle.jl_engine.specs.Standing.{Stands, AreSure, AreSaid, AreSaidBefore, AreLeft, Refusal, Cause, EndCause}
+use Rattle.jl_engine.specs.Standing.Refusal.{by_text as text_refused, by_length as length_refused, by_fault as fault_refused, by_form as form_refused}
 use Rattle.jl_engine.specs.declared.engines.EngineState.{EngineState}
 use Rattle.jl_engine.specs.declared.stops.Stop.{Stop}
 use Rattle.jl_engine.specs.declared.stops.Stop.TheVariants as stops
 use Rattle.jl_nquads.specs.LineOuts.{TellsLines}
 use Rattle.jl_top.specs.Blocks.{held_of, CountsLines, IsEmptyBlock, line_count}
-use Rattle.jl_top.specs.Pieces.{PutsLines, StopCause, HasBegun, FedLines, StoppedLines, FinishedLines, EndedLines, is_out_fault}
-use Rattle.jl_top.specs.Runs.{IsFresh, Took, ReadsWhole, in_bytes, at_end, StopsFor, LinesAreSure, is_cut, AnswersRun, HasPut, Going, read_stop_for, piece_stop_for, EndsRun}
+use Rattle.jl_top.specs.Pieces.{PutsLines, HasBegun, FedLines, StoppedLines, FinishedLines, AreLeftAtEnd, EndedLines, is_out_fault}
+use Rattle.jl_top.specs.Runs.{IsFresh, Took, ReadsWhole, piece_size, IsAtFault, by_text, by_fault, by_form, in_bytes, at_end, StopsFor, LinesAreSure, is_cut, AnswersRun, HasPut, Going, read_stop_for, piece_stop_for, EndsRun}
 use Rattle.jl_top.specs.Words.{settings_with}
 use Rattle.jl_top.specs.declared.blocks.Block.{Block}
 use Rattle.jl_top.specs.declared.stops.ReadStop.{ReadStop}
 use Rattle.jl_top.specs.declared.stops.ReadStop.TheVariants.{Refused, TooLong, TakeFault, OutFault, NoMemory}
 use Rattle.jl_engine.proofs.Bytes.{sure-now}
+use Rattle.jl_top.proofs.PieceLines.{left_sure, end_left_sure}
+use Rattle.jl_top.proofs.SureQuads.{sure_longer}
 
 leaves_nil : (left : Option (List ℕ)) → Leaves left [] left
 leaves_nil None = tt
@@ -108,6 +111,10 @@ module _ (e0 e1 : EngineState) (block : Block) (t1 l0 l1 w1 : Option (List ℕ))
     puts = record { quads = was_put.quads; holds = sure-now s g.bytes was_put.quads e1 was_put.stands; lines = was_put.lines };
   }
 
+  -- and is all that was said
+  said_lines : PutsLines (AreSaid s g.bytes) false w1
+  said_lines = record { quads = was_put.quads; holds = (e1, was_put.stands); lines = was_put.lines }
+
   -- ---- the end
 
   module _ (t2 l2 w2 : Option (List ℕ)) (t : t2 ≡ appended t1 []) (l : Leaves l1 [] l2) (none : NoneLeft l1) where
@@ -126,17 +133,27 @@ module _ (e0 e1 : EngineState) (block : Block) (t1 l0 l1 w1 : Option (List ℕ))
     cut_is stops.OutFault = refl
     cut_is stops.NoMemory = refl
 
-    end_stops : (x : Stop) → EndCause s g.bytes x → StopsFor s (read_stop_for x) t2 l0 l2 true
-    end_stops (stops.Refused fault) c = record { bytes = g.bytes; took = took; is_fault = at_end (record { refusal = c; ended = refl; none_left = none_left l1 l2 l none }) }
-    end_stops stops.OutFault c = tt
-    end_stops stops.NoMemory c = tt
+    end_stops : (x : Stop) → EndCause s g.bytes x → PutsLines (λ all. AreLeftAtEnd s g.bytes all x) (is_out_fault x) w2 → StopsFor s (read_stop_for x) t2 l0 l2 w2 true
+    end_stops (stops.Refused fault) c p =
+        record { bytes = g.bytes; took = took; is_fault = at_end (record { refusal = c; ended = refl; none_left = none_left l1 l2 l none; lines = p }) }
+    end_stops stops.OutFault c p = tt
+    end_stops stops.NoMemory c p = record {
+      front = g.bytes;
+      back = [];
+      took = subst (λ b. Took b t2 l0 l2) (sym (append-nil g.bytes)) took;
+      few = omega arith;
+      lines = record { quads = p.quads; holds = sure-now s g.bytes p.quads p.holds.0 p.holds.1; lines = p.lines };
+    }
+
+    end_sure : (x : Stop) (cut : Bool) → PutsLines (λ all. AreLeftAtEnd s g.bytes all x) cut w2 → PutsLines (AreSure s g.bytes) cut w2
+    end_sure x cut p = record { quads = p.quads; holds = end_left_sure s g.bytes x p.quads p.holds; lines = p.lines }
 
     end_err : (x : Stop) → EndedLines s g.bytes was_put.quads x w1 w2 → AnswersRun s (Err (read_stop_for x)) t2 l0 l2 w2 true
     end_err x h = record {
       whole = tt;
       ended = tt;
-      stops = end_stops x h.cause;
-      lines = record { bytes = g.bytes; took = took; puts = subst (λ c. PutsLines (AreSure s g.bytes) c w2) (sym (cut_is x)) (h.puts was_put.lines) };
+      stops = end_stops x h.cause (h.puts was_put.lines);
+      lines = record { bytes = g.bytes; took = took; puts = subst (λ c. PutsLines (AreSure s g.bytes) c w2) (sym (cut_is x)) (end_sure x (is_out_fault x) (h.puts was_put.lines)) };
     }
 
     -- the answer at the end
@@ -151,7 +168,7 @@ module _ (e0 e1 : EngineState) (block : Block) (t1 l0 l1 w1 : Option (List ℕ))
   pub take_answers : (t2 l2 w2 : Option (List ℕ)) (told_end : Bool) → t2 ≡ t1 → l2 ≡ l1 → w2 ≡ w1 → AnswersRun s (Err TakeFault) t2 l0 l2 w2 told_end
   take_answers t2 l2 w2 told_end t l w =
       subst (λ x. AnswersRun s (Err TakeFault) t2 l0 l2 x told_end) (sym w) (subst (λ x. AnswersRun s (Err TakeFault) t2 l0 x w1 told_end) (sym l) (subst (λ x. AnswersRun s (Err TakeFault) x l0 l1 w1 told_end) (sym t)
-      (record { whole = tt; ended = tt; stops = tt; lines = going_lines })))
+      (record { whole = tt; ended = tt; stops = record { bytes = g.bytes; took = g.took; lines = said_lines }; lines = going_lines })))
 
   -- ---- a piece that stops the run
 
@@ -159,16 +176,78 @@ module _ (e0 e1 : EngineState) (block : Block) (t1 l0 l1 w1 : Option (List ℕ))
     took_piece : Took (g.bytes ++ piece) t2 l0 l2
     took_piece = took_more g.bytes piece t1 t2 l0 l1 l2 g.took t l
 
-    piece_refused : (fault : Fault) (long : Bool) → (long ≡ true → 2 ^ 40 < length (g.bytes ++ piece)) → StopCause s (g.bytes ++ piece) (stops.Refused fault)
-        → StopsFor s (elim long [ true ↦ TooLong | false ↦ Refused fault ]) t2 l0 l2 told_end
-    piece_refused fault true many c = record { bytes = g.bytes ++ piece; took = took_piece; too_many = many refl }
-    piece_refused fault false many c = record { bytes = g.bytes ++ piece; took = took_piece; is_fault = in_bytes c }
+    module _ (few : length piece ≤ piece_size) (front back : List ℕ) (piece_is : piece ≡ front ++ back) where
+      whole_is : g.bytes ++ piece ≡ (g.bytes ++ front) ++ back
+      whole_is = ap (λ p. g.bytes ++ p) piece_is ∙ sym (append_assoc g.bytes front back)
 
-    piece_stops : (x : Stop) → e2.bytes ≤ length (g.bytes ++ piece) → StopCause s (g.bytes ++ piece) x → StopsFor s (piece_stop_for x e2.bytes) t2 l0 l2 told_end
-    piece_stops (stops.Refused fault) count c =
-        piece_refused fault (nat_lt (2 ^ 40) e2.bytes) (λ e. let long : 2 ^ 40 < e2.bytes = ltb-true (2 ^ 40) e2.bytes e in omega arith) c
-    piece_stops stops.OutFault count c = tt
-    piece_stops stops.NoMemory count c = tt
+      short_back : length back ≤ piece_size
+      short_back = let longer : length piece ≡ length front + length back = ap length piece_is ∙ length-append front back in omega (arith, few)
+
+      -- the bytes taken, split at a byte
+      split_at : (before : List ℕ) (byte : ℕ) → g.bytes ++ front ≡ before ++ byte ∷ [] → g.bytes ++ piece ≡ before ++ byte ∷ back
+      split_at before byte e = whole_is ∙ (ap (λ x. x ++ back) e ∙ append_assoc before (byte ∷ []) back)
+
+      at_fault : (before : List ℕ) (byte : ℕ) (fault : Fault) → length (before ++ byte ∷ []) ≤ 2 ^ 40 → Refusal s (before ++ byte ∷ []) fault → IsAtFault s (before ++ byte ∷ []) fault
+      at_fault before byte fault short (text_refused h) = by_text h
+      at_fault before byte fault short (fault_refused h) = by_fault h
+      at_fault before byte fault short (form_refused h) = by_form h
+      at_fault before byte fault short (length_refused h) =
+          let one_longer : length (before ++ byte ∷ []) ≡ length h.front + 1 = ap length h.bytes_are ∙ length-append h.front (h.byte ∷ []) in
+          let full : length h.front ≡ 2 ^ 40 = h.full in
+          absurd (omega arith)
+
+      refused_at : (fault : Fault) (long : Bool) → (long ≡ true → 2 ^ 40 < length (g.bytes ++ front)) → (long ≡ false → length (g.bytes ++ front) ≤ 2 ^ 40) → Refusal s (g.bytes ++ front) fault →
+          (p : PutsLines (λ all. AreSaidBefore s (g.bytes ++ front) all) false w2) → StopsFor s (elim long [ true ↦ TooLong | false ↦ Refused fault ]) t2 l0 l2 w2 told_end
+      refused_at fault true many short c p =
+          let h = p.holds in
+          let one_longer : length (g.bytes ++ front) ≡ length h.front + 1 = ap length h.bytes_are ∙ length-append h.front (h.byte ∷ []) in
+          let all : g.bytes ++ piece ≡ h.front ++ h.byte ∷ back = split_at h.front h.byte h.bytes_are in
+          let longer : length (h.front ++ h.byte ∷ back) ≡ length h.front + length (h.byte ∷ back) = length-append h.front (h.byte ∷ back) in
+          record {
+            front = h.front;
+            back = h.byte ∷ back;
+            took = subst (λ b. Took b t2 l0 l2) all took_piece;
+            too_many = omega (arith, many refl);
+            long = omega (arith, many refl);
+            lines = record { quads = p.quads; holds = h.said; lines = p.lines };
+          }
+      refused_at fault false many short c p =
+          let h = p.holds in
+          record {
+            bytes = g.bytes ++ piece;
+            took = took_piece;
+            is_fault = in_bytes (record {
+              front = h.front;
+              byte = h.byte;
+              back = back;
+              bytes_are = split_at h.front h.byte h.bytes_are;
+              is_fault = at_fault h.front h.byte fault (subst (λ b. length b ≤ 2 ^ 40) h.bytes_are (short refl)) (subst (λ b. Refusal s b fault) h.bytes_are c);
+              few = short_back;
+              lines = record { quads = p.quads; holds = h.said; lines = p.lines };
+            });
+          }
+
+      piece_stops : (x : Stop) → e2.bytes ≡ length (g.bytes ++ front) → Cause s (g.bytes ++ front) x → PutsLines (λ all. AreLeft s (g.bytes ++ front) all x) (is_out_fault x) w2 →
+          StopsFor s (piece_stop_for x e2.bytes) t2 l0 l2 w2 told_end
+      piece_stops (stops.Refused fault) count c p =
+          refused_at fault (nat_lt (2 ^ 40) e2.bytes)
+          (λ e. let long : 2 ^ 40 < e2.bytes = ltb-true (2 ^ 40) e2.bytes e in omega (arith, count))
+          (λ e. let short : e2.bytes ≤ 2 ^ 40 = ltb-false (2 ^ 40) e2.bytes e in omega (arith, count)) c p
+      piece_stops stops.OutFault count c p = tt
+      piece_stops stops.NoMemory count c p = record {
+        front = g.bytes ++ front;
+        back = back;
+        took = subst (λ b. Took b t2 l0 l2) whole_is took_piece;
+        few = short_back;
+        lines = p;
+      }
+
+      piece_sure : (x : Stop) (cut : Bool) → PutsLines (λ all. AreLeft s (g.bytes ++ front) all x) cut w2 → PutsLines (AreSure s (g.bytes ++ piece)) cut w2
+      piece_sure x cut p = record {
+        quads = p.quads;
+        holds = sure_longer s (g.bytes ++ piece) (g.bytes ++ front) back p.quads whole_is (left_sure s (g.bytes ++ front) x p.quads p.holds);
+        lines = p.lines;
+      }
 
     piece_cut : (x : Stop) → is_cut (Err (piece_stop_for x e2.bytes)) ≡ is_out_fault x
     piece_cut (stops.Refused fault) = by (nat_lt (2 ^ 40) e2.bytes)
@@ -180,18 +259,18 @@ module _ (e0 e1 : EngineState) (block : Block) (t1 l0 l1 w1 : Option (List ℕ))
     piece_cut stops.NoMemory = refl
 
     -- the answer where a piece stopped the run
-    pub piece_answers : (x : Stop) (stop : ReadStop) → ((bytes : List ℕ) (quads : List Parts) → Stands s bytes quads e1 → StoppedLines s bytes quads piece x e2 w1 w2) → stop ≡ piece_stop_for x e2.bytes → AnswersRun s (Err stop) t2 l0 l2 w2 told_end
-    piece_answers x stop stopped e =
+    pub piece_answers : (x : Stop) (stop : ReadStop) → length piece ≤ piece_size → ((bytes : List ℕ) (quads : List Parts) → Stands s bytes quads e1 → StoppedLines s bytes quads piece x e2 w1 w2) → stop ≡ piece_stop_for x e2.bytes → AnswersRun s (Err stop) t2 l0 l2 w2 told_end
+    piece_answers x stop few stopped e =
         let h = stopped g.bytes was_put.quads was_put.stands in
         let puts = h.puts was_put.lines in
         let after : AnswersRun s (Err (piece_stop_for x e2.bytes)) t2 l0 l2 w2 told_end = record {
           whole = tt;
           ended = tt;
-          stops = piece_stops x h.count h.cause;
+          stops = piece_stops few h.front h.back h.piece_is x h.count h.cause puts;
           lines = record {
             bytes = g.bytes ++ piece;
             took = took_piece;
-            puts = subst (λ c. PutsLines (AreSure s (g.bytes ++ piece)) c w2) (sym (piece_cut x)) puts;
+            puts = subst (λ c. PutsLines (AreSure s (g.bytes ++ piece)) c w2) (sym (piece_cut x)) (piece_sure few h.front h.back h.piece_is x (is_out_fault x) puts);
           };
         } in
         subst (λ r. AnswersRun s (Err r) t2 l0 l2 w2 told_end) (sym e) after
@@ -200,7 +279,21 @@ module _ (e0 e1 : EngineState) (block : Block) (t1 l0 l1 w1 : Option (List ℕ))
   pub long_answers : (told_end : Bool) → 2 ^ 40 < count → AnswersRun s (Err TooLong) t1 l0 l1 w1 told_end
   long_answers told_end many =
       let same : count ≡ length g.bytes = g.many in
-      record { whole = tt; ended = tt; stops = record { bytes = g.bytes; took = g.took; too_many = omega arith }; lines = going_lines }
+      let all : g.bytes ++ [] ≡ g.bytes = append-nil g.bytes in
+      let long : length (g.bytes ++ []) ≡ length g.bytes = ap length all in
+      record {
+        whole = tt;
+        ended = tt;
+        stops = record {
+          front = g.bytes;
+          back = [];
+          took = subst (λ b. Took b t1 l0 l1) (sym all) g.took;
+          too_many = omega arith;
+          long = omega arith;
+          lines = said_lines;
+        };
+        lines = going_lines;
+      }
 
 sure_nothing : (s : Settings) → AreSure s [] []
 sure_nothing s rest t reads accepts built x has = absurd has
@@ -216,7 +309,10 @@ no_lines t w fresh = nothing_counted w 0 fresh.none_put refl
 
 -- the answer before the first piece
 pub memory_answers : (s : Settings) (t l w : Option (List ℕ)) (told_end : Bool) → IsFresh t w → AnswersRun s (Err NoMemory) t l l w told_end
-memory_answers s t l w told_end fresh = record { whole = tt; ended = tt; stops = tt; lines = memory_lines s t l w fresh }
+unfolding memory_lines
+memory_answers s t l w told_end fresh =
+    let none = memory_lines s t l w fresh in
+    record { whole = tt; ended = tt; stops = record { front = []; back = []; took = none.took; few = omega arith; lines = none.puts }; lines = none }
 
 pub memory_counts : (w t : Option (List ℕ)) (block : Block) → IsFresh t w → IsEmptyBlock block → CountsLines w block.lines
 memory_counts w t block fresh empty = nothing_counted w block.lines fresh.none_put empty.no_lines

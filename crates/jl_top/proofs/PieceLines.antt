@@ -1,18 +1,18 @@
 -- The lines that a piece puts, and the end.
-use Rattle.std.proofs.Common.{◌≡◌, ◌⊎◌, inl, inr, ℕ, ◌+◌, ◌-◌, ◌^◌, ◌≤◌, min, Bool, true, false, List, [], ◌∷◌, ◌++◌, length, filter, Option, Some, None, Result, Err, IfErr, refl, sym, ap, ◌∙◌, subst, arith, append_assoc, length-append}
+use Rattle.std.proofs.Common.{◌≡◌, ◌⊎◌, inl, inr, ℕ, ◌+◌, ◌-◌, ◌^◌, ◌≤◌, min, Bool, true, false, List, [], ◌∷◌, ◌++◌, length, filter, Option, Some, None, Result, Err, IfErr, refl, sym, ap, ◌∙◌, subst, arith, append-nil}
 use Rattle.std.specs.Option.{IfSome}
 use Rattle.jl_io.specs.Outside.{appended}
 use Rattle.jl_model.specs.Causes.{Rose}
 use Rattle.jl_model.specs.Parts.{Parts}
 use Rattle.jl_defs.specs.Settings.{Settings}
-use Rattle.jl_engine.specs.Standing.{Stands, AreSure, WerePut, Fed, Stopped, Finished, StoppedAtEnd, Cause, EndCause}
+use Rattle.jl_engine.specs.Standing.{Stands, AreSure, AreSaid, AreLeft, WerePut, Fed, Stopped, Finished, StoppedAtEnd, Cause, EndCause}
 use Rattle.jl_engine.specs.declared.engines.EngineState.{EngineState}
 use Rattle.jl_engine.specs.declared.stops.Stop.{Stop}
 use Rattle.jl_engine.specs.declared.stops.Stop.TheVariants.{Refused, OutFault, NoMemory}
 use Rattle.jl_nquads.specs.LineOuts.{TellsLines}
 use Rattle.jl_nquads.proofs.Fronts.{appended-nil}
 use Rattle.jl_top.specs.Blocks.{HandsOn, held_of}
-use Rattle.jl_top.specs.Pieces.{IsRead, PutsLines, AddsLines, StopCause, FedLines, StoppedLines, FinishedLines, EndedLines, StopsWithLines, EndsWithLines, is_out_fault}
+use Rattle.jl_top.specs.Pieces.{IsRead, PutsLines, AddsLines, FedLines, StoppedLines, FinishedLines, AreLeftAtEnd, EndedLines, StopsWithLines, EndsWithLines, is_out_fault}
 use Rattle.jl_top.specs.declared.blocks.Block.{Block}
 use Rattle.jl_top.proofs.Handing.{hands_same}
 use Rattle.jl_top.proofs.LineFronts.{IsClosed, tells_lax, puts_front}
@@ -51,10 +51,21 @@ module _ (Holds : List Parts → Type 0) (quads more : List Parts) (w0 w1 : Opti
   pub puts_lax : Told w0 false quads → PutsLines Holds true w1
   puts_lax told = record { quads = quads ++ more; holds = holds; lines = lax w1 f1 (quads ++ more) (told_more told) }
 
-front_cause : (s : Settings) (bytes front back : List ℕ) (stop : Stop) → bytes ≡ front ++ back → Cause s front stop → StopCause s bytes stop
-front_cause s bytes front back (Refused fault) e c = record { front = front; back = back; bytes_are = e; refusal = c }
-front_cause s bytes front back OutFault e c = tt
-front_cause s bytes front back NoMemory e c = tt
+-- what is left is sure
+pub left_sure : (s : Settings) (bytes : List ℕ) (stop : Stop) (quads : List Parts) → AreLeft s bytes quads stop → AreSure s bytes quads
+left_sure s bytes (Refused fault) quads h = sure_longer s bytes h.front (h.byte ∷ []) quads h.bytes_are (sure-now s h.front quads h.said.0 h.said.1)
+left_sure s bytes OutFault quads h = h
+left_sure s bytes NoMemory quads h = h
+
+pub end_left_sure : (s : Settings) (bytes : List ℕ) (stop : Stop) (quads : List Parts) → AreLeftAtEnd s bytes quads stop → AreSure s bytes quads
+end_left_sure s bytes (Refused fault) quads h = sure-now s bytes quads h.0 h.1
+end_left_sure s bytes OutFault quads h = h
+end_left_sure s bytes NoMemory quads h = sure-now s bytes quads h.0 h.1
+
+said_left : (s : Settings) (bytes : List ℕ) (stop : Stop) (quads : List Parts) → AreSaid s bytes quads → AreLeftAtEnd s bytes quads stop
+said_left s bytes (Refused fault) quads h = h
+said_left s bytes OutFault quads h = sure-now s bytes quads h.0 h.1
+said_left s bytes NoMemory quads h = h
 
 module _ (s : Settings) (bytes : List ℕ) (quads : List Parts) (w0 w1 : Option (List ℕ)) (f0 f1 : Bool) (unfailed : f0 ≡ false) where
   -- a piece was read, and no line failed
@@ -64,33 +75,37 @@ module _ (s : Settings) (bytes : List ℕ) (quads : List Parts) (w0 w1 : Option 
   -- a line failed, whatever was answered
   pub failed_fed : (piece : List ℕ) (e : EngineState) → Fed s bytes quads piece e (Told w0 f0) (Told w1 f1) (λ _. true) → StoppedLines s bytes quads piece OutFault e w0 w1
   failed_fed piece e fed =
-      let count : e.bytes ≡ length (bytes ++ piece) = fed.stands.count in
       let sure = sure-now s (bytes ++ piece) (quads ++ fed.more) e fed.stands in
-      record { cause = tt; count = omega arith; puts = puts_lax (AreSure s (bytes ++ piece)) quads fed.more w0 w1 f0 f1 unfailed sure fed.put }
+      record {
+        front = piece;
+        back = [];
+        piece_is = sym (append-nil piece);
+        cause = tt;
+        count = fed.stands.count;
+        puts = puts_lax (AreSure s (bytes ++ piece)) quads fed.more w0 w1 f0 f1 unfailed sure fed.put;
+      }
 
   module _ (piece : List ℕ) (stop : Stop) (e : EngineState) (h : Stopped s bytes quads piece stop e (Told w0 f0) (Told w1 f1) (λ _. true)) where
-    split : bytes ++ piece ≡ (bytes ++ h.front) ++ h.back
-    split = ap (λ p. bytes ++ p) h.piece_is ∙ sym (append_assoc bytes h.front h.back)
-
-    sure : AreSure s (bytes ++ piece) (quads ++ h.more)
-    sure = sure_longer s (bytes ++ piece) (bytes ++ h.front) h.back (quads ++ h.more) split h.sure
-
-    count : e.bytes ≤ length (bytes ++ piece)
-    count =
-        let fed : e.bytes ≡ length (bytes ++ h.front) = h.count in
-        let longer : length (bytes ++ piece) ≡ length (bytes ++ h.front) + length h.back = ap length split ∙ length-append (bytes ++ h.front) h.back in
-        omega arith
-
     -- a piece stopped the reading, and no line failed
     pub stopped_lines : f1 ≡ false → StoppedLines s bytes quads piece stop e w0 w1
     stopped_lines whole = record {
-      cause = front_cause s (bytes ++ piece) (bytes ++ h.front) h.back stop split h.cause;
-      count = count;
-      puts = puts_by (AreSure s (bytes ++ piece)) quads h.more w0 w1 f0 f1 unfailed sure h.put stop whole;
+      front = h.front;
+      back = h.back;
+      piece_is = h.piece_is;
+      cause = h.cause;
+      count = h.count;
+      puts = puts_by (λ all. AreLeft s (bytes ++ h.front) all stop) quads h.more w0 w1 f0 f1 unfailed h.left h.put stop whole;
     }
 
     pub failed_stopped : StoppedLines s bytes quads piece OutFault e w0 w1
-    failed_stopped = record { cause = tt; count = count; puts = puts_lax (AreSure s (bytes ++ piece)) quads h.more w0 w1 f0 f1 unfailed sure h.put }
+    failed_stopped = record {
+      front = h.front;
+      back = h.back;
+      piece_is = h.piece_is;
+      cause = tt;
+      count = h.count;
+      puts = puts_lax (AreSure s (bytes ++ h.front)) quads h.more w0 w1 f0 f1 unfailed (left_sure s (bytes ++ h.front) stop (quads ++ h.more) h.left) h.put;
+    }
 
   read_of : (h : Finished s bytes quads (Told w0 f0) (Told w1 f1) (λ _. true)) → IsRead s bytes (quads ++ h.more)
   read_of h = record { tree = h.tree; reads = h.reads; accepted = h.accepted; built = h.built; quads_are = h.quads_are; sure = h.sure }
@@ -104,10 +119,13 @@ module _ (s : Settings) (bytes : List ℕ) (quads : List Parts) (w0 w1 : Option 
 
   -- the end stopped the reading
   pub ended_lines : (stop : Stop) → f1 ≡ false → StoppedAtEnd s bytes quads stop (Told w0 f0) (Told w1 f1) (λ _. true) → EndedLines s bytes quads stop w0 w1
-  ended_lines stop whole h = record { cause = h.cause; puts = puts_by (AreSure s bytes) quads h.more w0 w1 f0 f1 unfailed h.sure h.put stop whole }
+  ended_lines stop whole h = record {
+    cause = h.cause;
+    puts = puts_by (λ all. AreLeftAtEnd s bytes all stop) quads h.more w0 w1 f0 f1 unfailed (said_left s bytes stop (quads ++ h.more) h.said) h.put stop whole;
+  }
 
   pub failed_ended : (stop : Stop) → StoppedAtEnd s bytes quads stop (Told w0 f0) (Told w1 f1) (λ _. true) → EndedLines s bytes quads OutFault w0 w1
-  failed_ended stop h = record { cause = tt; puts = puts_lax (AreSure s bytes) quads h.more w0 w1 f0 f1 unfailed h.sure h.put }
+  failed_ended stop h = record { cause = tt; puts = puts_lax (AreSure s bytes) quads h.more w0 w1 f0 f1 unfailed (sure-now s bytes (quads ++ h.more) h.said.0 h.said.1) h.put }
 
 -- ---- what is handed on
 
@@ -134,14 +152,19 @@ module _ (quads : List Parts) (w0 w1 w2 : Option (List ℕ)) (b0 b1 b2 : Block) 
       let all : PutsLines Sure false (appended w1 (held_of b1)) = record { quads = quads ++ h.more; holds = sure (quads ++ h.more) h.holds; lines = h.lines (told_held told) } in
       puts_front Sure false w2 (held_of b2) closed (subst (λ w. PutsLines Sure false w) (sym (hands_same w1 w2 b1 b2 hands)) all)
 
+  weaken : (Sure Other : List Parts → Type 0) (cut : Bool) (w : Option (List ℕ)) → ((q : List Parts) → Sure q → Other q) → PutsLines Sure cut w → PutsLines Other cut w
+  weaken Sure Other cut w h p = record { quads = p.quads; holds = h p.quads p.holds; lines = p.lines }
+
   -- the lines before a stop were handed on, or the out fails
-  pub puts_answered : (Sure : List Parts → Type 0) (stop answer : Stop) → IsClosed Sure → (answer ≡ OutFault) ⊎ ((answer ≡ stop) × (held_of b2 ≡ []))
-      → (Told (appended w0 (held_of b0)) false quads → PutsLines Sure (is_out_fault stop) (appended w1 (held_of b1))) → Told w0 false quads → PutsLines Sure (is_out_fault answer) w2
-  puts_answered Sure stop answer closed k puts told =
+  pub puts_answered : (Left : Stop → List Parts → Type 0) (stop answer : Stop) → IsClosed (Left OutFault) → ((q : List Parts) → Left stop q → Left OutFault q) → (answer ≡ OutFault) ⊎ ((answer ≡ stop) × (held_of b2 ≡ []))
+      → (Told (appended w0 (held_of b0)) false quads → PutsLines (Left stop) (is_out_fault stop) (appended w1 (held_of b1))) → Told w0 false quads → PutsLines (Left answer) (is_out_fault answer) w2
+  puts_answered Left stop answer closed weak k puts told =
       let all = puts (told_held told) in
       elim k [
-        | inl e ↦ subst (λ a. PutsLines Sure (is_out_fault a) w2) (sym e) (puts_front Sure (is_out_fault stop) w2 (held_of b2) closed (subst (λ w. PutsLines Sure (is_out_fault stop) w) (sym (hands_same w1 w2 b1 b2 hands)) all))
-        | inr e ↦ subst (λ a. PutsLines Sure (is_out_fault a) w2) (sym e.0) (subst (λ w. PutsLines Sure (is_out_fault stop) w) (handed_all w1 w2 b1 b2 hands e.1) all)
+        | inl e ↦ subst (λ a. PutsLines (Left a) (is_out_fault a) w2) (sym e)
+            (puts_front (Left OutFault) (is_out_fault stop) w2 (held_of b2) closed
+            (weaken (Left stop) (Left OutFault) (is_out_fault stop) (appended w2 (held_of b2)) weak (subst (λ w. PutsLines (Left stop) (is_out_fault stop) w) (sym (hands_same w1 w2 b1 b2 hands)) all)))
+        | inr e ↦ subst (λ a. PutsLines (Left a) (is_out_fault a) w2) (sym e.0) (subst (λ w. PutsLines (Left stop) (is_out_fault stop) w) (handed_all w1 w2 b1 b2 hands e.1) all)
       ]
 
   module _ (s : Settings) (bytes : List ℕ) where
@@ -152,25 +175,30 @@ module _ (quads : List Parts) (w0 w1 w2 : Option (List ℕ)) (b0 b1 b2 : Block) 
     -- a piece was read, and not all its lines were handed on
     pub fed_cut : (piece : List ℕ) (e : EngineState) → FedLines s bytes quads piece e (appended w0 (held_of b0)) (appended w1 (held_of b1)) → StoppedLines s bytes quads piece OutFault e w0 w2
     fed_cut piece e h =
-        let count : e.bytes ≡ length (bytes ++ piece) = h.holds.count in
         record {
+          front = piece;
+          back = [];
+          piece_is = sym (append-nil piece);
           cause = tt;
-          count = omega arith;
+          count = h.holds.count;
           puts = adds_cut (λ q. Stands s (bytes ++ piece) q e) (AreSure s (bytes ++ piece)) (sure_front s (bytes ++ piece))
               (λ q stands. sure-now s (bytes ++ piece) q e stands) h;
         }
 
-    cause_answered : (b : List ℕ) (stop answer : Stop) → (answer ≡ OutFault) ⊎ ((answer ≡ stop) × (held_of b2 ≡ [])) → StopCause s b stop → StopCause s b answer
-    cause_answered b stop answer (inl e) c = subst (StopCause s b) (sym e) tt
-    cause_answered b stop answer (inr e) c = subst (StopCause s b) (sym e.0) c
+    cause_answered : (b : List ℕ) (stop answer : Stop) → (answer ≡ OutFault) ⊎ ((answer ≡ stop) × (held_of b2 ≡ [])) → Cause s b stop → Cause s b answer
+    cause_answered b stop answer (inl e) c = subst (Cause s b) (sym e) tt
+    cause_answered b stop answer (inr e) c = subst (Cause s b) (sym e.0) c
 
     -- a piece stopped the reading
     pub stopped_answered : (piece : List ℕ) (stop answer : Stop) (e : EngineState) → (answer ≡ OutFault) ⊎ ((answer ≡ stop) × (held_of b2 ≡ []))
         → StoppedLines s bytes quads piece stop e (appended w0 (held_of b0)) (appended w1 (held_of b1)) → StoppedLines s bytes quads piece answer e w0 w2
     stopped_answered piece stop answer e k h = record {
-      cause = cause_answered (bytes ++ piece) stop answer k h.cause;
+      front = h.front;
+      back = h.back;
+      piece_is = h.piece_is;
+      cause = cause_answered (bytes ++ h.front) stop answer k h.cause;
       count = h.count;
-      puts = puts_answered (AreSure s (bytes ++ piece)) stop answer (sure_front s (bytes ++ piece)) k h.puts;
+      puts = puts_answered (λ x all. AreLeft s (bytes ++ h.front) all x) stop answer (sure_front s (bytes ++ h.front)) (left_sure s (bytes ++ h.front) stop) k h.puts;
     }
 
     -- the end was read, and all lines handed on, or not all
@@ -187,7 +215,10 @@ module _ (quads : List Parts) (w0 w1 w2 : Option (List ℕ)) (b0 b1 b2 : Block) 
     -- the end stopped the reading
     pub ended_answered : (stop answer : Stop) → (answer ≡ OutFault) ⊎ ((answer ≡ stop) × (held_of b2 ≡ []))
         → EndedLines s bytes quads stop (appended w0 (held_of b0)) (appended w1 (held_of b1)) → EndedLines s bytes quads answer w0 w2
-    ended_answered stop answer k h = record { cause = end_answered stop answer k h.cause; puts = puts_answered (AreSure s bytes) stop answer (sure_front s bytes) k h.puts }
+    ended_answered stop answer k h = record {
+      cause = end_answered stop answer k h.cause;
+      puts = puts_answered (λ x all. AreLeftAtEnd s bytes all x) stop answer (sure_front s bytes) (end_left_sure s bytes stop) k h.puts;
+    }
 
 -- a count that has risen without calls that were refused
 pub rose_alone : (m n r s : ℕ) → r ≡ 0 → s ≡ r → Rose (m + r) (n + s) → Rose m n

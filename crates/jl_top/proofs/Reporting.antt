@@ -7,17 +7,15 @@ use Rattle.jl_model.specs.JsonTree.{Tree}
 use Rattle.jl_model.specs.declared.faults.Fault.{Fault}
 use Rattle.jl_defs.specs.Sets.{Has}
 use Rattle.jl_defs.specs.Settings.{Settings}
-use Rattle.jl_engine.specs.Standing.{Refusal, EndRefusal}
-use Rattle.jl_engine.specs.Standing.Refusal.{by_text, by_length, by_fault, by_form}
+use Rattle.jl_engine.specs.Standing.{EndRefusal}
 use Rattle.jl_engine.specs.Standing.EndRefusal.{by_end, by_fault as end_by_fault, by_form as end_by_form}
 use Rattle.jl_defs.specs.OpenText.{ReadsAs}
 use Rattle.jl_defs.specs.Faults.{faults}
 use Rattle.jl_frames.specs.Streamed.{later_forms}
-use Rattle.jl_token.proofs.OneReading.{one_reading}
 use Rattle.jl_top.specs.Blocks.{CountsLines}
-use Rattle.jl_top.specs.Headline.{AnswersRead, AnswersFault, AnswersTooLong, Accepts, IsComplete, PutsSureLines, RunAnswers}
+use Rattle.jl_top.specs.Headline.{AnswersRead, AnswersFault, AnswersTaken, AnswersMemory, AnswersTooLong, Accepts, IsComplete, PutsSureLines, RunAnswers}
 use Rattle.jl_top.specs.Reports.{report_of, plain_report, IsReport, IsStatus}
-use Rattle.jl_top.specs.Runs.{IsFresh, IsFault, in_bytes, at_end, AnswersRun}
+use Rattle.jl_top.specs.Runs.{IsFresh, IsAtFault, by_text, by_fault, by_form, IsFault, in_bytes, at_end, AnswersRun}
 use Rattle.jl_top.specs.declared.stops.ReadStop.{ReadStop}
 use Rattle.jl_top.specs.declared.stops.ReadStop.TheVariants.{Refused, TooLong, TakeFault, OutFault, NoMemory}
 use Rattle.jl_top.proofs.Going.{memory_answers, no_lines}
@@ -35,35 +33,28 @@ all_taken bytes taken (Some rest) h k = h ∙ ap (λ r. taken ++ r) k ∙ append
 none_had : {A : Type 0} (xs : List A) (x : A) → xs ≡ [] → Has xs x → ⊥
 none_had xs x e h = subst (λ l. Has l x) e h
 
--- no front of an accepted document that isn't too long is refused
-no_refusal : (s : Settings) (front rest bytes : List ℕ) (fault : Fault) → bytes ≡ front ++ rest → Accepts s bytes → length bytes ≤ 2 ^ 40 → Refusal s front fault → ⊥
-no_refusal s front rest bytes fault e (t, reads, accepts, built) short (by_text h) =
+-- no byte of an accepted document is at fault
+no_refusal : (s : Settings) (front rest bytes : List ℕ) (fault : Fault) → bytes ≡ front ++ rest → Accepts s bytes → IsAtFault s front fault → ⊥
+no_refusal s front rest bytes fault e (t, reads, accepts, built) (by_text h) =
     let begins : Begins 0 front = (rest, t, reads.0, subst (λ b. Reads 0 b t reads.0) e reads.1) in
     h.breaks.breaks (subst (Begins 0) h.bytes_are begins)
-no_refusal s front rest bytes fault e (t, reads, accepts, built) short (by_length h) =
-    let longer : length bytes ≡ length front + length rest = ap length e ∙ length-append front rest in
-    let one_more : length front ≡ length h.front + 1 = ap length h.bytes_are ∙ length-append h.front (h.byte ∷ []) in
-    let full : length h.front ≡ 2 ^ 40 = h.full in
-    absurd (omega arith)
-no_refusal s front rest bytes fault e (t, reads, accepts, built) short (by_fault h) = none_had _ fault accepts (h.faulty rest t (subst (λ b. ReadsAs b t) e reads))
-no_refusal s front rest bytes fault e (t, reads, accepts, built) short (by_form h) = none_had _ fault.at built (h.stands rest t (subst (λ b. ReadsAs b t) e reads))
-
--- two trees of a text
-one_tree : (bytes : List ℕ) (t u : Tree) → ReadsAs bytes t → ReadsAs bytes u → t ≡ u
-one_tree bytes t u h k = (one_reading 0 bytes t u h.0 k.0 h.1 k.1).0
+no_refusal s front rest bytes fault e (t, reads, accepts, built) (by_fault h) = none_had _ fault accepts (h.faulty rest t (subst (λ b. ReadsAs b t) e reads))
+no_refusal s front rest bytes fault e (t, reads, accepts, built) (by_form h) = none_had _ fault.at built (h.stands rest t (subst (λ b. ReadsAs b t) e reads))
 
 -- nor is its end
 no_end_refusal : (s : Settings) (bytes : List ℕ) (fault : Fault) → Accepts s bytes → EndRefusal s bytes fault → ⊥
 no_end_refusal s bytes fault (t, reads, accepts, built) (by_end h) = h.unreadable t reads.0 reads.1
-no_end_refusal s bytes fault (t, reads, accepts, built) (end_by_fault u read has) = none_had (faults s u) fault (ap (faults s) (one_tree bytes u t read reads) ∙ accepts) has
-no_end_refusal s bytes fault (t, reads, accepts, built) (end_by_form u read code has) = none_had (later_forms s u) fault.at (ap (later_forms s) (one_tree bytes u t read reads) ∙ built) has
+no_end_refusal s bytes fault (t, reads, accepts, built) (end_by_fault h) = none_had (faults s t) fault accepts (h.faulty t reads)
+no_end_refusal s bytes fault (t, reads, accepts, built) (end_by_form h) = none_had (later_forms s t) fault.at built (h.stands t reads)
 
--- an accepted document that isn't too long has no fault
-no_fault : (s : Settings) (fault : Fault) (taken bytes : List ℕ) (told_end : Bool) (left : Option (List ℕ)) → Leaves (Some bytes) taken left → Accepts s bytes → length bytes ≤ 2 ^ 40 → IsFault s taken fault told_end left → ⊥
-no_fault s fault taken bytes told_end left h accepts short (in_bytes f) =
+-- an accepted document has no fault
+no_fault : (s : Settings) (fault : Fault) (taken bytes : List ℕ) (put : Option (List ℕ)) (told_end : Bool) (left : Option (List ℕ)) → Leaves (Some bytes) taken left → Accepts s bytes → IsFault s taken fault put told_end left → ⊥
+no_fault s fault taken bytes put told_end left h accepts (in_bytes f) =
     let t = taken_front bytes taken left h in
-    no_refusal s f.front (f.back ++ t.0) bytes fault (t.1 ∙ ap (λ b. b ++ t.0) f.bytes_are ∙ append_assoc f.front f.back t.0) accepts short f.refusal
-no_fault s fault taken bytes told_end left h accepts short (at_end f) =
+    let split : f.front ++ f.byte ∷ f.back ≡ (f.front ++ f.byte ∷ []) ++ f.back = sym (append_assoc f.front (f.byte ∷ []) f.back) in
+    no_refusal s (f.front ++ f.byte ∷ []) (f.back ++ t.0) bytes fault
+    (t.1 ∙ ap (λ b. b ++ t.0) (f.bytes_are ∙ split) ∙ append_assoc (f.front ++ f.byte ∷ []) f.back t.0) accepts f.is_fault
+no_fault s fault taken bytes put told_end left h accepts (at_end f) =
     no_end_refusal s taken fault (subst (Accepts s) (all_taken bytes taken left h f.none_left) accepts) f.refusal
 
 module _ (s : Settings) (taken left_old left_new put : Option (List ℕ)) (told_end : Bool) (quads : ℕ) where
@@ -83,7 +74,7 @@ module _ (s : Settings) (taken left_old left_new put : Option (List ℕ)) (told_
   ended_of (Err OutFault) h is = absurd (omega arith)
   ended_of (Err NoMemory) h is = absurd (omega arith)
 
-  fault_of : (r : Result (Unit {0}) ReadStop) → AnswersRun s r taken left_old left_new put told_end → AnswersFault s (report_of r quads) taken left_old left_new told_end
+  fault_of : (r : Result (Unit {0}) ReadStop) → AnswersRun s r taken left_old left_new put told_end → AnswersFault s (report_of r quads) taken left_old left_new put told_end
   fault_of (Ok u) h = λ is. absurd (omega arith)
   fault_of (Err (Refused fault)) h = λ is. h.stops
   fault_of (Err TooLong) h = λ is. absurd (omega arith)
@@ -91,13 +82,29 @@ module _ (s : Settings) (taken left_old left_new put : Option (List ℕ)) (told_
   fault_of (Err OutFault) h = λ is. absurd (omega arith)
   fault_of (Err NoMemory) h = λ is. absurd (omega arith)
 
-  long_of : (r : Result (Unit {0}) ReadStop) → AnswersRun s r taken left_old left_new put told_end → AnswersTooLong (report_of r quads) taken left_old left_new
+  long_of : (r : Result (Unit {0}) ReadStop) → AnswersRun s r taken left_old left_new put told_end → AnswersTooLong s (report_of r quads) taken left_old left_new put
   long_of (Ok u) h = λ is. absurd (omega arith)
   long_of (Err (Refused fault)) h = λ is. absurd (omega arith)
   long_of (Err TooLong) h = λ is. h.stops
   long_of (Err TakeFault) h = λ is. absurd (omega arith)
   long_of (Err OutFault) h = λ is. absurd (omega arith)
   long_of (Err NoMemory) h = λ is. absurd (omega arith)
+
+  taken_of : (r : Result (Unit {0}) ReadStop) → AnswersRun s r taken left_old left_new put told_end → AnswersTaken s (report_of r quads) taken left_old left_new put
+  taken_of (Ok u) h = λ is. absurd (omega arith)
+  taken_of (Err (Refused fault)) h = λ is. absurd (omega arith)
+  taken_of (Err TooLong) h = λ is. absurd (omega arith)
+  taken_of (Err TakeFault) h = λ is. h.stops
+  taken_of (Err OutFault) h = λ is. absurd (omega arith)
+  taken_of (Err NoMemory) h = λ is. absurd (omega arith)
+
+  memory_of : (r : Result (Unit {0}) ReadStop) → AnswersRun s r taken left_old left_new put told_end → AnswersMemory s (report_of r quads) taken left_old left_new put
+  memory_of (Ok u) h = λ is. absurd (omega arith)
+  memory_of (Err (Refused fault)) h = λ is. absurd (omega arith)
+  memory_of (Err TooLong) h = λ is. absurd (omega arith)
+  memory_of (Err TakeFault) h = λ is. absurd (omega arith)
+  memory_of (Err OutFault) h = λ is. absurd (omega arith)
+  memory_of (Err NoMemory) h = λ is. h.stops
 
   taking_of : (r : Result (Unit {0}) ReadStop) (m n : ℕ) → HasCause m n (IsErrOf r TakeFault) → (report_of r quads).status ≡ 3 → Rose m n
   taking_of (Ok u) m n h = λ is. absurd (omega arith)
@@ -118,11 +125,12 @@ module _ (s : Settings) (taken left_old left_new put : Option (List ℕ)) (told_
   complete_of : (r : Result (Unit {0}) ReadStop) (k0 k1 p0 p1 : ℕ) → AnswersRun s r taken left_old left_new put told_end → HasCause k0 k1 (IsErrOf r TakeFault) → HasCause p0 p1 (IsErrOf r OutFault) → IsComplete s (report_of r quads) left_old k0 k1 p0 p1
   complete_of (Ok u) k0 k1 p0 p1 h k p = λ bytes left accepts short no_take no_put. inl refl
   complete_of (Err (Refused fault)) k0 k1 p0 p1 h k p = λ bytes left accepts short no_take no_put.
-      absurd (no_fault s fault h.stops.bytes bytes told_end left_new (subst (λ l. Leaves l h.stops.bytes left_new) left h.stops.took.left_is) accepts short h.stops.is_fault)
+      absurd (no_fault s fault h.stops.bytes bytes put told_end left_new (subst (λ l. Leaves l h.stops.bytes left_new) left h.stops.took.left_is) accepts h.stops.is_fault)
   complete_of (Err TooLong) k0 k1 p0 p1 h k p = λ bytes left accepts short no_take no_put.
-      let front = taken_front bytes h.stops.bytes left_new (subst (λ l. Leaves l h.stops.bytes left_new) left h.stops.took.left_is) in
-      let longer : length bytes ≡ length h.stops.bytes + length front.0 = ap length front.1 ∙ length-append h.stops.bytes front.0 in
-      let long : 2 ^ 40 < length h.stops.bytes = h.stops.too_many in
+      let all = h.stops.front ++ h.stops.back in
+      let front = taken_front bytes all left_new (subst (λ l. Leaves l all left_new) left h.stops.took.left_is) in
+      let longer : length bytes ≡ length all + length front.0 = ap length front.1 ∙ length-append all front.0 in
+      let long : 2 ^ 40 < length all = h.stops.too_many in
       absurd (omega arith)
   complete_of (Err TakeFault) k0 k1 p0 p1 h k p = λ bytes left accepts short no_take no_put. absurd (no_take (k.failed refl))
   complete_of (Err OutFault) k0 k1 p0 p1 h k p = λ bytes left accepts short no_take no_put. absurd (no_put (p.failed refl))
@@ -181,7 +189,9 @@ some_answers s r quads t0 t1 l0 l1 w0 w1 e0 e1 k0 k1 p0 p1 h counts k p = record
   fault = fault_of s t1 l0 l1 w1 e1 quads r h;
   taking = record { later = k.later; failed = taking_of s t1 l0 l1 w1 e1 quads r k0 k1 k };
   writing = record { later = p.later; failed = writing_of s t1 l0 l1 w1 e1 quads r p0 p1 p };
+  taken = taken_of s t1 l0 l1 w1 e1 quads r h;
   too_long = long_of s t1 l0 l1 w1 e1 quads r h;
+  memory = memory_of s t1 l0 l1 w1 e1 quads r h;
   complete = complete_of s t1 l0 l1 w1 e1 quads r k0 k1 p0 p1 h k p;
   lines = lines_of s t1 l0 l1 w1 e1 quads r h;
   quads = subst (λ n. CountsLines w1 n) (sym (quads_are r quads)) counts;
@@ -203,7 +213,9 @@ none_answers t l w e k p counts = record {
   fault = tt;
   taking = record { later = omega arith; failed = λ is. absurd (omega arith) };
   writing = record { later = omega arith; failed = λ is. absurd (omega arith) };
-  too_long = λ is. absurd (omega arith);
+  taken = tt;
+  too_long = tt;
+  memory = tt;
   complete = tt;
   lines = tt;
   quads = counts;

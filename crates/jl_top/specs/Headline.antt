@@ -8,7 +8,7 @@ use Rattle.jl_defs.specs.Settings.{Settings}
 use Rattle.jl_engine.specs.Standing.{IsWithinStage}
 use Rattle.jl_top.specs.Blocks.{CountsLines}
 use Rattle.jl_top.specs.Reports.{IsReport}
-use Rattle.jl_top.specs.Runs.{ReadsWhole, HasFault, TakesTooMany, LinesAreSure}
+use Rattle.jl_top.specs.Runs.{SaysAllTaken, SureBeforePiece, ReadsWhole, HasFault, TakesTooMany, LinesAreSure}
 use Rattle.jl_top.specs.declared.reports.Report.{Report}
 
 -- nothing was taken and nothing put
@@ -21,10 +21,18 @@ pub record IsUntouched (taken_old taken_new put_old put_new : Option (List ℕ))
 abbrev pub AnswersRead : Settings → Report → Option (List ℕ) → Option (List ℕ) → Option (List ℕ) → Option (List ℕ) → Type 0
 AnswersRead s report taken left_old left_new put = report.status ≡ 0 → ReadsWhole s taken left_old left_new put
 
--- 1: the bytes taken have the fault of this code and place
-abbrev pub AnswersFault : Settings → Report → Option (List ℕ) → Option (List ℕ) → Option (List ℕ) → Bool → Type 0
-AnswersFault s report taken left_old left_new told_end =
-    report.status ≡ 1 → IfSome report.code (λ code. HasFault s (record { code = code; at = report.at }) taken left_old left_new told_end)
+-- 1: the bytes taken have the fault of this code and place, and the lines put are all those before it
+abbrev pub AnswersFault : Settings → Report → Option (List ℕ) → Option (List ℕ) → Option (List ℕ) → Option (List ℕ) → Bool → Type 0
+AnswersFault s report taken left_old left_new put told_end =
+    report.status ≡ 1 → IfSome report.code (λ code. HasFault s (record { code = code; at = report.at }) taken left_old left_new put told_end)
+
+-- 3: the lines put are all those of the bytes taken before the failure
+abbrev pub AnswersTaken : Settings → Report → Option (List ℕ) → Option (List ℕ) → Option (List ℕ) → Option (List ℕ) → Type 0
+AnswersTaken s report taken left_old left_new put = report.status ≡ 3 → SaysAllTaken s taken left_old left_new put
+
+-- 5: the lines put are sure by what was taken before the last piece, at the least
+abbrev pub AnswersMemory : Settings → Report → Option (List ℕ) → Option (List ℕ) → Option (List ℕ) → Option (List ℕ) → Type 0
+AnswersMemory s report taken left_old left_new put = report.status ≡ 5 → SureBeforePiece s taken left_old left_new put
 
 -- 3: taking failed; the count of its failures never falls
 abbrev pub AnswersTaking : Report → ℕ → ℕ → Type 0
@@ -34,9 +42,9 @@ AnswersTaking report before now = HasCause before now (report.status ≡ 3)
 abbrev pub AnswersWriting : Report → ℕ → ℕ → Type 0
 AnswersWriting report before now = HasCause before now (report.status ≡ 4)
 
--- 8: more than 2^40 bytes were taken
-abbrev pub AnswersTooLong : Report → Option (List ℕ) → Option (List ℕ) → Option (List ℕ) → Type 0
-AnswersTooLong report taken left_old left_new = report.status ≡ 8 → TakesTooMany taken left_old left_new
+-- 8: more than 2^40 bytes were taken, and the lines put are all those of the first 2^40 or more
+abbrev pub AnswersTooLong : Settings → Report → Option (List ℕ) → Option (List ℕ) → Option (List ℕ) → Option (List ℕ) → Type 0
+AnswersTooLong s report taken left_old left_new put = report.status ≡ 8 → TakesTooMany s taken left_old left_new put
 
 -- the bytes are an accepted document of the forms that are built
 abbrev pub Accepts : Settings → List ℕ → Type 0
@@ -57,10 +65,12 @@ pub record RunAnswers (settings : Option Settings) (answer : Report) (taken_old 
   pub untouched : settings ≡ None → IsUntouched taken_old taken_new put_old put_new ended_old ended_new
   pub read : IfSome settings (λ s. AnswersRead s answer taken_new left_old left_new put_new)
   pub ended : answer.status ≡ 0 → ended_new ≡ true
-  pub fault : IfSome settings (λ s. AnswersFault s answer taken_new left_old left_new ended_new)
+  pub fault : IfSome settings (λ s. AnswersFault s answer taken_new left_old left_new put_new ended_new)
   pub taking : AnswersTaking answer takes_old takes_new
   pub writing : AnswersWriting answer puts_old puts_new
-  pub too_long : AnswersTooLong answer taken_new left_old left_new
+  pub taken : IfSome settings (λ s. AnswersTaken s answer taken_new left_old left_new put_new)
+  pub too_long : IfSome settings (λ s. AnswersTooLong s answer taken_new left_old left_new put_new)
+  pub memory : IfSome settings (λ s. AnswersMemory s answer taken_new left_old left_new put_new)
   pub complete : IfSome settings (λ s. IsComplete s answer left_old takes_old takes_new puts_old puts_new)
   pub lines : IfSome settings (λ s. PutsSureLines s answer taken_new left_old left_new put_new)
   pub quads : CountsLines put_new answer.quads

@@ -1,14 +1,13 @@
 -- What a piece of the input, or its end, puts as lines.
-use Rattle.std.specs.Prelude.{◌≡◌, ◌≢◌, ◌≤◌, ℕ, Bool, true, false, List, ◌++◌, length, Option, IfSome, Result, IfErr}
+use Rattle.std.specs.Prelude.{◌≡◌, ◌≢◌, ℕ, Bool, true, false, List, ◌++◌, length, Option, IfSome, Result, IfErr}
 use Rattle.jl_model.specs.JsonTree.{Tree}
 use Rattle.jl_model.specs.Parts.{Parts}
-use Rattle.jl_model.specs.declared.faults.Fault.{Fault}
 use Rattle.jl_defs.specs.Settings.{Settings}
 use Rattle.jl_defs.specs.Sets.{SameSet}
 use Rattle.jl_defs.specs.Dataset.{dataset}
 use Rattle.jl_defs.specs.Faults.{AcceptsTree}
 use Rattle.jl_defs.specs.OpenText.{ReadsAs}
-use Rattle.jl_engine.specs.Standing.{Stands, IsWithinStage, AreSure, Refusal, EndCause}
+use Rattle.jl_engine.specs.Standing.{Stands, AreSure, AreSaid, AreLeft, IsWithinStage, Cause, EndCause}
 use Rattle.jl_engine.specs.declared.engines.EngineState.{EngineState}
 use Rattle.jl_engine.specs.declared.stops.Stop.{Stop}
 use Rattle.jl_engine.specs.declared.stops.Stop.TheVariants.{Refused, OutFault, NoMemory}
@@ -44,37 +43,33 @@ pub record AddsLines (Holds : List Parts → Type 0) (quads : List Parts) (put_o
   pub holds : Holds (quads ++ more)
   pub lines : IfSome put_old (TellsLines false quads) → IfSome put_new (TellsLines false (quads ++ more))
 
--- a front of the bytes is refused
-pub record IsRefused (s : Settings) (bytes : List ℕ) (fault : Fault) : Type 0 where
-  pub front : List ℕ
-  pub back : List ℕ
-  pub bytes_are : bytes ≡ front ++ back
-  pub refusal : Refusal s front fault
-
--- why bytes stop the reading; the out and want of memory have their causes elsewhere
-abbrev pub StopCause : Settings → List ℕ → Stop → Type 0
-StopCause s bytes (Refused fault) = IsRefused s bytes fault
-StopCause s bytes OutFault = Unit {0}
-StopCause s bytes NoMemory = Unit {0}
-
 -- the piece was read, and the lines of its quads were put
 abbrev pub FedLines : Settings → List ℕ → List Parts → List ℕ → EngineState → Option (List ℕ) → Option (List ℕ) → Type 0
 FedLines s bytes quads piece e put_old put_new = AddsLines (λ all. Stands s (bytes ++ piece) all e) quads put_old put_new
 
--- the piece stopped the reading, and the lines of some quads were put
+-- a front of the piece stopped the reading, and the lines of what is left for that were put
 pub record StoppedLines (s : Settings) (bytes : List ℕ) (quads : List Parts) (piece : List ℕ) (stop : Stop) (e : EngineState) (put_old put_new : Option (List ℕ)) : Type 0 where
-  pub cause : StopCause s (bytes ++ piece) stop
-  pub count : e.bytes ≤ length (bytes ++ piece)
-  pub puts : IfSome put_old (TellsLines false quads) → PutsLines (AreSure s (bytes ++ piece)) (is_out_fault stop) put_new
+  pub front : List ℕ
+  pub back : List ℕ
+  pub piece_is : piece ≡ front ++ back
+  pub cause : Cause s (bytes ++ front) stop
+  pub count : e.bytes ≡ length (bytes ++ front)
+  pub puts : IfSome put_old (TellsLines false quads) → PutsLines (λ all. AreLeft s (bytes ++ front) all stop) (is_out_fault stop) put_new
 
 -- the document was read to its end, and the lines of all its quads were put
 abbrev pub FinishedLines : Settings → List ℕ → List Parts → Option (List ℕ) → Option (List ℕ) → Type 0
 FinishedLines s bytes quads put_old put_new = AddsLines (IsRead s bytes) quads put_old put_new
 
--- the end stopped the reading, and the lines of some quads were put
+-- what is put where the end stops the reading: all that the bytes say, unless the out fails
+abbrev pub AreLeftAtEnd : Settings → List ℕ → List Parts → Stop → Type 0
+AreLeftAtEnd s bytes quads (Refused fault) = AreSaid s bytes quads
+AreLeftAtEnd s bytes quads OutFault = AreSure s bytes quads
+AreLeftAtEnd s bytes quads NoMemory = AreSaid s bytes quads
+
+-- the end stopped the reading, and the lines of what is left were put
 pub record EndedLines (s : Settings) (bytes : List ℕ) (quads : List Parts) (stop : Stop) (put_old put_new : Option (List ℕ)) : Type 0 where
   pub cause : EndCause s bytes stop
-  pub puts : IfSome put_old (TellsLines false quads) → PutsLines (AreSure s bytes) (is_out_fault stop) put_new
+  pub puts : IfSome put_old (TellsLines false quads) → PutsLines (λ all. AreLeftAtEnd s bytes all stop) (is_out_fault stop) put_new
 
 -- the out fails with this answer, and hadn't with the stop before
 abbrev pub FailedNow : Stop → Stop → Type 0

@@ -8,7 +8,7 @@ ghost use Rattle.jl_model.specs.Causes.{HasCause};
 ghost use Rattle.jl_top.specs.Blocks.{IsEmptyBlock, CountsLines, held_of};
 ghost use Rattle.jl_top.specs.Pieces.{HasBegun};
 ghost use Rattle.jl_top.specs.Promptness.{Grants, GrantsTo};
-ghost use Rattle.jl_top.specs.Runs.{IsFresh, AnswersRun, EndsRun, read_stop_for, piece_stop_for};
+ghost use Rattle.jl_top.specs.Runs.{IsFresh, AnswersRun, EndsRun, piece_size, read_stop_for, piece_stop_for};
 ghost use Rattle.jl_top.specs.Words.{settings_with};
 
 use super::blocks::Block;
@@ -67,6 +67,7 @@ fn read_on<P: Port>(
     requires block { IsEmptyBlock block.old }
     requires begun { HasBegun engine.old }
     requires buf { 0 < length buf.old }
+    requires piece { length buf.old ≤ piece_size }
     ensures answers { (s : Settings) → Stands s [] [] engine.old → AnswersRun s result (P.taken port.new) (P.left port.old) (P.left port.new) (P.written port.new) (P.ended port.new) }
     ensures counts { CountsLines (P.written port.new) block.new.lines }
     ensures said { P.said port.new ≡ P.said port.old }

@@ -2,7 +2,7 @@
 ghost use Rattle.std.specs.Prelude.{◌≡◌, ◌↔◌, ◌≤◌, ◌^◌, ℕ, List, length, true, false, None, IfSome};
 ghost use Rattle.jl_io.specs.Outside.{SaysMore};
 ghost use Rattle.jl_top.specs.Blocks.{CountsLines};
-ghost use Rattle.jl_top.specs.Headline.{IsUntouched, AnswersRead, AnswersFault, AnswersTooLong, AnswersTaking, AnswersWriting, PutsSureLines, IsComplete, RunAnswers};
+ghost use Rattle.jl_top.specs.Headline.{IsUntouched, AnswersRead, AnswersFault, AnswersTaken, AnswersMemory, AnswersTooLong, AnswersTaking, AnswersWriting, PutsSureLines, IsComplete, RunAnswers};
 ghost use Rattle.jl_top.specs.Promptness.{Grants};
 ghost use Rattle.jl_top.specs.Reports.{IsReport, report_line};
 ghost use Rattle.jl_top.specs.Runs.{IsFresh};
@@ -19,7 +19,7 @@ use std::alloc::Global;
 /// Does all that the program does: reads the document that the port gives, puts the lines of its
 /// quads while it reads, says a line where the status isn't 0, and reports.
 ///
-/// `words` are those behind the program's name. Nothing is fetched from the shelf.
+/// `words` are those after the program's name. Nothing is fetched from the shelf.
 pub fn run<P: Port, F: Shelf>(alloc: Global, words: &[Text], port: &mut P, _shelf: &mut F) -> Report
     requires open { P.ended port.old ≡ false }
     requires fresh { IsFresh (P.taken port.old) (P.written port.old) }
@@ -34,10 +34,12 @@ pub fn run<P: Port, F: Shelf>(alloc: Global, words: &[Text], port: &mut P, _shel
     ensures ended { result.status ≡ 0 → P.ended port.new ≡ true }
 
     // When the other answers come.
-    ensures fault { IfSome (settings_of words.now) (λ s. AnswersFault s result (P.taken port.new) (P.left port.old) (P.left port.new) (P.ended port.new)) }
+    ensures fault { IfSome (settings_of words.now) (λ s. AnswersFault s result (P.taken port.new) (P.left port.old) (P.left port.new) (P.written port.new) (P.ended port.new)) }
     ensures taking { AnswersTaking result (P.take_faults port.old) (P.take_faults port.new) }
     ensures writing { AnswersWriting result (P.put_faults port.old) (P.put_faults port.new) }
-    ensures too_long { AnswersTooLong result (P.taken port.new) (P.left port.old) (P.left port.new) }
+    ensures taken { IfSome (settings_of words.now) (λ s. AnswersTaken s result (P.taken port.new) (P.left port.old) (P.left port.new) (P.written port.new)) }
+    ensures too_long { IfSome (settings_of words.now) (λ s. AnswersTooLong s result (P.taken port.new) (P.left port.old) (P.left port.new) (P.written port.new)) }
+    ensures memory { IfSome (settings_of words.now) (λ s. AnswersMemory s result (P.taken port.new) (P.left port.old) (P.left port.new) (P.written port.new)) }
     ensures complete { IfSome (settings_of words.now) (λ s. IsComplete s result (P.left port.old) (P.take_faults port.old) (P.take_faults port.new) (P.put_faults port.old) (P.put_faults port.new)) }
 
     // At every end.
@@ -45,6 +47,7 @@ pub fn run<P: Port, F: Shelf>(alloc: Global, words: &[Text], port: &mut P, _shel
     ensures quads { CountsLines (P.written port.new) result.quads }
     ensures report { IsReport result }
     ensures said { SaysMore (P.said port.old) (report_line result) (P.said port.new) }
+    ensures shelf { _shelf.new ≡ _shelf.old }
 {
     let report = answer(alloc, words, port);
     say_report(port, &report);

@@ -1,5 +1,5 @@
-use Rattle.std.proofs.Common.{[], refl, sym, subst, ◌∙◌, ◌≡◌, ◌+◌, ◌==◌, length, take, arith, IsErr, Err, ap, false, true}
-use Rattle.std.proofs.lemmas.List.{length-take-le}
+use Rattle.std.proofs.Common.{[], min, refl, sym, subst, ◌∙◌, ◌≡◌, ◌+◌, ◌==◌, length, take, arith, IsErr, Err, ap, false, true}
+use Rattle.std.proofs.lemmas.List.{length-take, length-take-le}
 use Rattle.std.proofs.lemmas.Bool.{ne_eqb, eq-eqb}
 use Rattle.jl_io.specs.Outside.{appended, Leaves}
 use Rattle.jl_top.specs.Blocks.{CountsLines}
@@ -92,6 +92,7 @@ returns-in-Err-read_piece-clause-answers g c = λ s start.
     piece_answers c.args.engine.now c.loop-taken.engine c.loop-taken.block (g.P.Port.taken c.loop-taken.port) (g.P.Port.left c.args.port.now) (g.P.Port.left c.loop-taken.port) (g.P.ByteOut.written c.loop-taken.port) c.loop-taken.taken c.loop-taken.invariant.going s start
     (g.P.Port.taken c.read_piece.new.out) (g.P.Port.left c.read_piece.new.out) (g.P.ByteOut.written c.read_piece.new.out) piece c.read_piece.new.engine
     (g.met.P.Port.keeps_taken c.take.new.self c.read_piece.new.out b ∙ c.in-Ok.ensures.taken) left (g.P.Port.ended c.read_piece.new.out) c.in-Err-read_piece.stop c.piece_stop.result
+    (let most = c.requires.piece in let short : length piece ≡ min c.in-Ok.n (length c.take.new.buf) = length-take c.in-Ok.n c.take.new.buf in omega (arith, most, short))
     (λ bytes quads stands. subst (λ w. StoppedLines s bytes quads piece c.in-Err-read_piece.stop c.read_piece.new.engine w (g.P.ByteOut.written c.read_piece.new.out)) c.take.ensures.written (stopped bytes quads stands))
     (subst (λ n. c.piece_stop.result ≡ piece_stop_for c.in-Err-read_piece.stop n) c.bytes.ensures c.piece_stop.ensures)
 
