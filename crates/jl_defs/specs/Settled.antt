@@ -72,8 +72,8 @@ is_graph_item root = false
 is_graph_item entry = false
 is_graph_item elsewhere = false
 
--- in the order any: nothing comes into question that the object may go back to, it is no item of a graph map, and its context, all
--- keys for `@type` and one for `@id` have closed
+-- in the order any: the context outside has none before it, the object is no item of a graph map, and its `@context`, all keys for
+-- `@type` and one for `@id` have closed
 abbrev pub settles_any : Context → Stand → Members → Result Inside Fault → Bool
 settles_any c stand ms (Err f) = false
 settles_any c stand ms (Ok i) =
