@@ -90,3 +90,43 @@ row_16 = refl
 row_17 : bound_of Streaming 89 (in_member 0 (member 1 (codes "@context") (object 12 (member 13 (codes "T") (object 17 (member 18 (codes "@id") (scalar 24 (Str (codes "http://a/T"))) (member 37 (codes "@context") (object 48 (member 49 (codes "i") (scalar 53 (Str (codes "@id"))) no_member)) no_member))) no_member)) (member 62 (codes "@type") (scalar 70 (Str (codes "T"))) no_member)) (61 ∷ 73 ∷ []) 74 (codes "i") (in_scalar 78 quote)) ≡ 537
 unfolding bound_of
 row_17 = refl
+
+-- streaming: {"@context":{"i":{"@id":"http://a/i","@container":"@index"}},"i":{"k":[{"@id":"http://a/o"|}]}}, the key of the map's entry is in force at the map, at the array and at the first object below it
+row_18 : bound_of Streaming 90 (in_member 0 (member 1 (codes "@context") (object 12 (member 13 (codes "i") (object 17 (member 18 (codes "@id") (scalar 24 (Str (codes "http://a/i"))) (member 37 (codes "@container") (scalar 50 (Str (codes "@index"))) no_member))) no_member)) no_member) (60 ∷ []) 61 (codes "i") (in_member 65 no_member [] 66 (codes "k") (in_array 70 no_item (in_object 71 (member 72 (codes "@id") (scalar 78 (Str (codes "http://a/o"))) no_member) (90 ∷ []))))) ≡ 887
+unfolding bound_of
+row_18 = refl
+
+-- streaming: {"@context":{"i":{"@id":"http://a/i","@container":"@index"}},"i":{"k":[{"http://a/p":[|]}]}}, from the object's first key for a property on it is in force neither there nor below
+row_19 : bound_of Streaming 86 (in_member 0 (member 1 (codes "@context") (object 12 (member 13 (codes "i") (object 17 (member 18 (codes "@id") (scalar 24 (Str (codes "http://a/i"))) (member 37 (codes "@container") (scalar 50 (Str (codes "@index"))) no_member))) no_member)) no_member) (60 ∷ []) 61 (codes "i") (in_member 65 no_member [] 66 (codes "k") (in_array 70 no_item (in_member 71 no_member [] 72 (codes "http://a/p") (in_array 85 no_item unread))))) ≡ 1035
+unfolding bound_of
+row_19 = refl
+
+-- streaming: {"@context":{"i":{"@id":"http://a/i","@container":"@index"}},"i":{"k":[{"http://a/p":1,"@index":"x"|}]}}, nor is it after another key has been read
+row_20 : bound_of Streaming 99 (in_member 0 (member 1 (codes "@context") (object 12 (member 13 (codes "i") (object 17 (member 18 (codes "@id") (scalar 24 (Str (codes "http://a/i"))) (member 37 (codes "@container") (scalar 50 (Str (codes "@index"))) no_member))) no_member)) no_member) (60 ∷ []) 61 (codes "i") (in_member 65 no_member [] 66 (codes "k") (in_array 70 no_item (in_object 71 (member 72 (codes "http://a/p") (scalar 85 (Number (codes "1"))) (member 87 (codes "@index") (scalar 96 (Str (codes "x"))) no_member)) (86 ∷ 99 ∷ []))))) ≡ 836
+unfolding bound_of
+row_20 = refl
+
+-- streaming: {"@context":{"i":{"@id":"http://a/i","@container":"@index"}},"i":{"k":{"@set":[|]}}}, the first object below the map may be a set; below it the key isn't in force
+row_21 : bound_of Streaming 79 (in_member 0 (member 1 (codes "@context") (object 12 (member 13 (codes "i") (object 17 (member 18 (codes "@id") (scalar 24 (Str (codes "http://a/i"))) (member 37 (codes "@container") (scalar 50 (Str (codes "@index"))) no_member))) no_member)) no_member) (60 ∷ []) 61 (codes "i") (in_member 65 no_member [] 66 (codes "k") (in_member 70 no_member [] 71 (codes "@set") (in_array 78 no_item unread)))) ≡ 790
+unfolding bound_of
+row_21 = refl
+
+-- streaming: {"@context":{"l":{"@id":"http://a/l","@container":"@language"}},"l":{"en":[|]}}, the key of a language map's entry is in force at the map and at the array
+row_22 : bound_of Streaming 75 (in_member 0 (member 1 (codes "@context") (object 12 (member 13 (codes "l") (object 17 (member 18 (codes "@id") (scalar 24 (Str (codes "http://a/l"))) (member 37 (codes "@container") (scalar 50 (Str (codes "@language"))) no_member))) no_member)) no_member) (63 ∷ []) 64 (codes "l") (in_member 68 no_member [] 69 (codes "en") (in_array 74 no_item unread))) ≡ 632
+unfolding bound_of
+row_22 = refl
+
+-- any: {"@context":{},"http://a/p":"x","@id":"http://a/s"|}, 50 bytes wait; of the closed members that for `@id` leads, with four times 18 bytes, and no other
+row_23 : bound_of Any 50 (in_object 0 (member 1 (codes "@context") (object 12 no_member) (member 15 (codes "http://a/p") (scalar 28 (Str (codes "x"))) (member 32 (codes "@id") (scalar 38 (Str (codes "http://a/s"))) no_member))) (14 ∷ 31 ∷ 50 ∷ [])) ≡ 295
+unfolding bound_of
+row_23 = refl
+
+-- any: {"@context":{},"@id":"http://a/s","@type":"T|"}, the open member for `@type` doesn't lead
+row_24 : bound_of Any 44 (in_member 0 (member 1 (codes "@context") (object 12 no_member) (member 15 (codes "@id") (scalar 21 (Str (codes "http://a/s"))) no_member)) (14 ∷ 33 ∷ []) 34 (codes "@type") (in_scalar 42 quote)) ≡ 296
+unfolding bound_of
+row_24 = refl
+
+-- any: {"@context":{},"@type":[],"@id":"http://a/s","http://a/p|":1}, the object has settled: no member leads, and the key counts as it is read, with 11 bytes
+row_25 : bound_of Any 56 (in_key 0 (member 1 (codes "@context") (object 12 no_member) (member 15 (codes "@type") (array 23 no_item) (member 26 (codes "@id") (scalar 32 (Str (codes "http://a/s"))) no_member))) (14 ∷ 25 ∷ 44 ∷ []) 45) ≡ 199
+unfolding bound_of
+row_25 = refl

@@ -75,3 +75,9 @@ row_13 = refl
 row_14 : is_refused_in_both None [] (object 0 (member 1 (codes "@context") (object 12 (member 13 (codes "i") (object 17 (member 18 (codes "@id") (scalar 24 (Str (codes "http://a/i"))) (member 37 (codes "@container") (scalar 50 (Str (codes "@list"))) no_member))) (member 59 (codes "T") (object 63 (member 64 (codes "@id") (scalar 70 (Str (codes "http://a/T"))) (member 83 (codes "@context") (object 94 (member 95 (codes "i") (object 99 (member 100 (codes "@id") (scalar 106 (Str (codes "http://a/i"))) (member 119 (codes "@container") (scalar 132 (Str (codes "@id"))) no_member))) no_member)) no_member))) no_member))) (member 142 (codes "@id") (scalar 148 (Str (codes "http://a/s"))) (member 161 (codes "@type") (scalar 169 (Str (codes "T"))) (member 173 (codes "i") (object 177 (member 178 (codes "http://a/x") (array 191 (item (array 192 (item (scalar 193 (Str (codes "y"))) no_item)) no_item)) no_member)) no_member))))) (fault code.MapItem 192 ∷ []) ≡ true
 unfolding is_refused_in_both
 row_14 = refl
+
+-- {"@context":{"i":{"@id":"http://a/i","@container":"@index","@index":"http://a/k"}},"@id":"http://a/s","i":{"one":1.5,"two":2,"three":{"@value":1.5}}}
+-- Under a property-valued index a number at fault has its own fault alone, a value object with one has both.
+row_15 : is_refused_in_both None [] (object 0 (member 1 (codes "@context") (object 12 (member 13 (codes "i") (object 17 (member 18 (codes "@id") (scalar 24 (Str (codes "http://a/i"))) (member 37 (codes "@container") (scalar 50 (Str (codes "@index"))) (member 59 (codes "@index") (scalar 68 (Str (codes "http://a/k"))) no_member)))) no_member)) (member 83 (codes "@id") (scalar 89 (Str (codes "http://a/s"))) (member 102 (codes "i") (object 106 (member 107 (codes "one") (scalar 113 (Number (codes "1.5"))) (member 117 (codes "two") (scalar 123 (Number (codes "2"))) (member 125 (codes "three") (object 133 (member 134 (codes "@value") (scalar 143 (Number (codes "1.5"))) no_member)) no_member)))) no_member)))) (fault code.NumberNotWhole 113 ∷ fault code.InvalidValueObject 123 ∷ fault code.InvalidValueObject 133 ∷ fault code.NumberNotWhole 143 ∷ []) ≡ true
+unfolding is_refused_in_both
+row_15 = refl

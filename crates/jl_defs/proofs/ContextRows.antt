@@ -330,3 +330,26 @@ row_63 = refl
 row_64 : says_in_both None [] (object 0 (member 1 (codes "@context") (object 12 (member 13 (codes "@type") (object 21 (member 22 (codes "@container") (array 35 (item (scalar 36 (Str (codes "@set"))) no_item)) (member 44 (codes "@protected") (scalar 57 (truth true)) no_member))) (member 63 (codes "@foo") (scalar 70 (Str (codes "http://a/f"))) (member 83 (codes "q") (scalar 87 (Str (codes "@foo"))) (member 94 (codes "p") (scalar 98 (Str (codes "http://a/p"))) no_member))))) (member 112 (codes "@id") (scalar 118 (Str (codes "http://a/s"))) (member 131 (codes "@foo") (scalar 138 (Number (codes "1"))) (member 140 (codes "q") (scalar 144 (Number (codes "1"))) (member 146 (codes "p") (scalar 150 (Str (codes "x"))) no_member)))))) (codes "<http://a/s> <http://a/p> \"x\" .\n" ∷ []) ≡ true
 unfolding says_in_both
 row_64 = refl
+
+-- {"@context":[{"a":"http://a/a"},{"a":{"@id":"b:x"},"b":{"@id":"http://b/","@context":{"q":{"@id":"http://q/q","@type":"a"}}}}]}
+-- A scoped context is tried without the terms that wait for its own term, older definitions neither.
+row_65 : is_refused_in_both None [] (object 0 (member 1 (codes "@context") (array 12 (item (object 13 (member 14 (codes "a") (scalar 18 (Str (codes "http://a/a"))) no_member)) (item (object 32 (member 33 (codes "a") (object 37 (member 38 (codes "@id") (scalar 44 (Str (codes "b:x"))) no_member)) (member 51 (codes "b") (object 55 (member 56 (codes "@id") (scalar 62 (Str (codes "http://b/"))) (member 74 (codes "@context") (object 85 (member 86 (codes "q") (object 90 (member 91 (codes "@id") (scalar 97 (Str (codes "http://q/q"))) (member 110 (codes "@type") (scalar 118 (Str (codes "a"))) no_member))) no_member)) no_member))) no_member))) no_item))) no_member)) (fault code.InvalidScopedContext 1 ∷ []) ≡ true
+unfolding is_refused_in_both
+row_65 = refl
+
+-- {"@context":[{"a":"http://a/a"},{"b":{"@id":"http://b/","@context":{"q":{"@id":"http://q/q","@type":"a"}}},"a":{"@id":"b:x"}}],"@id":"http://a/s","a":"x"}
+-- Here nothing waits for it yet, and the older definition counts.
+row_66 : says_in_both None [] (object 0 (member 1 (codes "@context") (array 12 (item (object 13 (member 14 (codes "a") (scalar 18 (Str (codes "http://a/a"))) no_member)) (item (object 32 (member 33 (codes "b") (object 37 (member 38 (codes "@id") (scalar 44 (Str (codes "http://b/"))) (member 56 (codes "@context") (object 67 (member 68 (codes "q") (object 72 (member 73 (codes "@id") (scalar 79 (Str (codes "http://q/q"))) (member 92 (codes "@type") (scalar 100 (Str (codes "a"))) no_member))) no_member)) no_member))) (member 107 (codes "a") (object 111 (member 112 (codes "@id") (scalar 118 (Str (codes "b:x"))) no_member)) no_member))) no_item))) (member 127 (codes "@id") (scalar 133 (Str (codes "http://a/s"))) (member 146 (codes "a") (scalar 150 (Str (codes "x"))) no_member)))) (codes "<http://a/s> <b:x> \"x\" .\n" ∷ []) ≡ true
+unfolding says_in_both
+row_66 = refl
+
+-- {"@context":{"@vocab":"http://v/","p":"@vocab:x"}}
+-- A prefix that is an entry of the local context and no term is looked up there.
+row_67 : is_refused_in_both None [] (object 0 (member 1 (codes "@context") (object 12 (member 13 (codes "@vocab") (scalar 22 (Str (codes "http://v/"))) (member 34 (codes "p") (scalar 38 (Str (codes "@vocab:x"))) no_member))) no_member)) (fault code.KeywordRedefinition 1 ∷ []) ≡ true
+unfolding is_refused_in_both
+row_67 = refl
+
+-- {"@context":{"p":"@vocab:x"}}
+row_68 : is_refused_in_both None [] (object 0 (member 1 (codes "@context") (object 12 (member 13 (codes "p") (scalar 17 (Str (codes "@vocab:x"))) no_member)) no_member)) (fault code.InvalidIriMapping 1 ∷ []) ≡ true
+unfolding is_refused_in_both
+row_68 = refl

@@ -160,3 +160,52 @@ row_25 = refl
 row_26 : says_in_both None [] (object 0 (member 1 (codes "@context") (object 12 (member 13 (codes "g") (object 17 (member 18 (codes "@id") (scalar 24 (Str (codes "http://a/g"))) (member 37 (codes "@container") (scalar 50 (Str (codes "@list"))) no_member))) (member 59 (codes "T") (object 63 (member 64 (codes "@id") (scalar 70 (Str (codes "http://a/T"))) (member 83 (codes "@context") (object 94 (member 95 (codes "g") (object 99 (member 100 (codes "@id") (scalar 106 (Str (codes "http://a/g"))) (member 119 (codes "@container") (array 132 (item (scalar 133 (Str (codes "@graph"))) (item (scalar 142 (Str (codes "@id"))) no_item))) no_member))) no_member)) no_member))) no_member))) (member 153 (codes "@id") (scalar 159 (Str (codes "http://a/s"))) (member 172 (codes "@type") (scalar 180 (Str (codes "T"))) (member 184 (codes "g") (object 188 (member 189 (codes "@none") (array 197 (item (array 198 (item (object 199 (member 200 (codes "@id") (scalar 206 (Str (codes "http://a/o"))) (member 219 (codes "http://a/p") (scalar 232 (Str (codes "x"))) no_member))) no_item)) no_item)) no_member)) no_member))))) (codes "<http://a/s> <http://www.w3.org/1999/02/22-rdf-syntax-ns#type> <http://a/T> .\n" ∷ codes "<http://a/s> <http://a/g> _:jlg198 .\n" ∷ codes "<http://a/o> <http://a/p> \"x\" _:jlg199 .\n" ∷ []) ≡ true
 unfolding says_in_both
 row_26 = refl
+
+-- {"@context":{"b":"@index","T":{"@id":"http://a/T","@context":{"b":"@graph"}}},"b":"x","@id":"http://a/s","@type":"T"}
+-- A key of the prelude that means `@graph` in the final context decides nothing: the object is a node in both orders.
+row_27 : says_in_both None [] (object 0 (member 1 (codes "@context") (object 12 (member 13 (codes "b") (scalar 17 (Str (codes "@index"))) (member 26 (codes "T") (object 30 (member 31 (codes "@id") (scalar 37 (Str (codes "http://a/T"))) (member 50 (codes "@context") (object 61 (member 62 (codes "b") (scalar 66 (Str (codes "@graph"))) no_member)) no_member))) no_member))) (member 78 (codes "b") (scalar 82 (Str (codes "x"))) (member 86 (codes "@id") (scalar 92 (Str (codes "http://a/s"))) (member 105 (codes "@type") (scalar 113 (Str (codes "T"))) no_member))))) (codes "<http://a/s> <http://www.w3.org/1999/02/22-rdf-syntax-ns#type> <http://a/T> .\n" ∷ []) ≡ true
+unfolding says_in_both
+row_27 = refl
+
+-- {"@context":{"b":"@index","T":{"@id":"http://a/T","@context":{"b":"@graph"}}},"b":"x","@id":"http://a/s","@type":"T","http://a/p":"y"}
+row_28 : says_in_both None [] (object 0 (member 1 (codes "@context") (object 12 (member 13 (codes "b") (scalar 17 (Str (codes "@index"))) (member 26 (codes "T") (object 30 (member 31 (codes "@id") (scalar 37 (Str (codes "http://a/T"))) (member 50 (codes "@context") (object 61 (member 62 (codes "b") (scalar 66 (Str (codes "@graph"))) no_member)) no_member))) no_member))) (member 78 (codes "b") (scalar 82 (Str (codes "x"))) (member 86 (codes "@id") (scalar 92 (Str (codes "http://a/s"))) (member 105 (codes "@type") (scalar 113 (Str (codes "T"))) (member 117 (codes "http://a/p") (scalar 130 (Str (codes "y"))) no_member)))))) (codes "<http://a/s> <http://a/p> \"y\" .\n" ∷ codes "<http://a/s> <http://www.w3.org/1999/02/22-rdf-syntax-ns#type> <http://a/T> .\n" ∷ []) ≡ true
+unfolding says_in_both
+row_28 = refl
+
+-- {"@context":{"g":"@type","T":{"@id":"http://a/T","@context":{"g":"@graph"}}},"g":["T",{"@id":"http://a/s","http://a/p":"x"}],"@id":"http://a/g"}
+row_29 : says_in_both None [] (object 0 (member 1 (codes "@context") (object 12 (member 13 (codes "g") (scalar 17 (Str (codes "@type"))) (member 25 (codes "T") (object 29 (member 30 (codes "@id") (scalar 36 (Str (codes "http://a/T"))) (member 49 (codes "@context") (object 60 (member 61 (codes "g") (scalar 65 (Str (codes "@graph"))) no_member)) no_member))) no_member))) (member 77 (codes "g") (array 81 (item (scalar 82 (Str (codes "T"))) (item (object 86 (member 87 (codes "@id") (scalar 93 (Str (codes "http://a/s"))) (member 106 (codes "http://a/p") (scalar 119 (Str (codes "x"))) no_member))) no_item))) (member 125 (codes "@id") (scalar 131 (Str (codes "http://a/g"))) no_member)))) (codes "<http://a/s> <http://a/p> \"x\" <http://a/g> .\n" ∷ []) ≡ true
+unfolding says_in_both
+row_29 = refl
+
+-- {"@context":{"g":"@type","T":{"@id":"http://a/T","@context":{"g":"@graph"}}},"g":["T",{"@id":"http://a/s","http://a/p":"x"}]}
+-- Here the two orders accept the document with different quads: its one entry makes it a pure graph where all entries tell,
+-- and a node where its rest tells, since the rest has none.
+row_30_any : says (settings Any None []) (object 0 (member 1 (codes "@context") (object 12 (member 13 (codes "g") (scalar 17 (Str (codes "@type"))) (member 25 (codes "T") (object 29 (member 30 (codes "@id") (scalar 36 (Str (codes "http://a/T"))) (member 49 (codes "@context") (object 60 (member 61 (codes "g") (scalar 65 (Str (codes "@graph"))) no_member)) no_member))) no_member))) (member 77 (codes "g") (array 81 (item (scalar 82 (Str (codes "T"))) (item (object 86 (member 87 (codes "@id") (scalar 93 (Str (codes "http://a/s"))) (member 106 (codes "http://a/p") (scalar 119 (Str (codes "x"))) no_member))) no_item))) no_member))) (codes "<http://a/s> <http://a/p> \"x\" .\n" ∷ []) ≡ true
+unfolding says
+row_30_any = refl
+
+row_30_streaming : says (settings Streaming None []) (object 0 (member 1 (codes "@context") (object 12 (member 13 (codes "g") (scalar 17 (Str (codes "@type"))) (member 25 (codes "T") (object 29 (member 30 (codes "@id") (scalar 36 (Str (codes "http://a/T"))) (member 49 (codes "@context") (object 60 (member 61 (codes "g") (scalar 65 (Str (codes "@graph"))) no_member)) no_member))) no_member))) (member 77 (codes "g") (array 81 (item (scalar 82 (Str (codes "T"))) (item (object 86 (member 87 (codes "@id") (scalar 93 (Str (codes "http://a/s"))) (member 106 (codes "http://a/p") (scalar 119 (Str (codes "x"))) no_member))) no_item))) no_member))) (codes "<http://a/s> <http://a/p> \"x\" _:jlb0 .\n" ∷ []) ≡ true
+unfolding says
+row_30_streaming = refl
+
+-- {"@context":{"g":{"@id":"http://a/g","@container":["@graph","@id"]}},"@id":"http://a/s","g":{"http://a/k":{"u":1,"@id":"http://a/i","@graph":[],"http://a/p":"x"}}}
+-- The first kept member of the rest is the late `@id`, so the item is no graph object, and nothing is late after its `@graph`.
+row_31_any : says (settings Any None []) (object 0 (member 1 (codes "@context") (object 12 (member 13 (codes "g") (object 17 (member 18 (codes "@id") (scalar 24 (Str (codes "http://a/g"))) (member 37 (codes "@container") (array 50 (item (scalar 51 (Str (codes "@graph"))) (item (scalar 60 (Str (codes "@id"))) no_item))) no_member))) no_member)) (member 69 (codes "@id") (scalar 75 (Str (codes "http://a/s"))) (member 88 (codes "g") (object 92 (member 93 (codes "http://a/k") (object 106 (member 107 (codes "u") (scalar 111 (Number (codes "1"))) (member 113 (codes "@id") (scalar 119 (Str (codes "http://a/i"))) (member 132 (codes "@graph") (array 141 no_item) (member 144 (codes "http://a/p") (scalar 157 (Str (codes "x"))) no_member))))) no_member)) no_member)))) (codes "<http://a/i> <http://a/p> \"x\" <http://a/k> .\n" ∷ codes "<http://a/s> <http://a/g> <http://a/k> .\n" ∷ []) ≡ true
+unfolding says
+row_31_any = refl
+
+row_31_streaming : is_refused (settings Streaming None []) (object 0 (member 1 (codes "@context") (object 12 (member 13 (codes "g") (object 17 (member 18 (codes "@id") (scalar 24 (Str (codes "http://a/g"))) (member 37 (codes "@container") (array 50 (item (scalar 51 (Str (codes "@graph"))) (item (scalar 60 (Str (codes "@id"))) no_item))) no_member))) no_member)) (member 69 (codes "@id") (scalar 75 (Str (codes "http://a/s"))) (member 88 (codes "g") (object 92 (member 93 (codes "http://a/k") (object 106 (member 107 (codes "u") (scalar 111 (Number (codes "1"))) (member 113 (codes "@id") (scalar 119 (Str (codes "http://a/i"))) (member 132 (codes "@graph") (array 141 no_item) (member 144 (codes "http://a/p") (scalar 157 (Str (codes "x"))) no_member))))) no_member)) no_member)))) (fault code.LateIdentifier 113 ∷ []) ≡ true
+unfolding is_refused
+row_31_streaming = refl
+
+-- {"@context":{"g":{"@id":"http://a/g","@container":["@graph","@id"]},"t":"@type","T":{"@id":"http://a/T","@context":{"t":null,"b":"@index"}}},"@id":"http://a/s","g":{"http://a/k":{"t":"T","b":"i","@graph":[{"@id":"http://a/x","http://a/p":"1"}]}}}
+-- Before the rest stand the prelude, which keeps nothing here, and the second run with its `@index`: a graph object.
+row_32 : says_in_both None [] (object 0 (member 1 (codes "@context") (object 12 (member 13 (codes "g") (object 17 (member 18 (codes "@id") (scalar 24 (Str (codes "http://a/g"))) (member 37 (codes "@container") (array 50 (item (scalar 51 (Str (codes "@graph"))) (item (scalar 60 (Str (codes "@id"))) no_item))) no_member))) (member 68 (codes "t") (scalar 72 (Str (codes "@type"))) (member 80 (codes "T") (object 84 (member 85 (codes "@id") (scalar 91 (Str (codes "http://a/T"))) (member 104 (codes "@context") (object 115 (member 116 (codes "t") (scalar 120 Null) (member 125 (codes "b") (scalar 129 (Str (codes "@index"))) no_member))) no_member))) no_member)))) (member 141 (codes "@id") (scalar 147 (Str (codes "http://a/s"))) (member 160 (codes "g") (object 164 (member 165 (codes "http://a/k") (object 178 (member 179 (codes "t") (scalar 183 (Str (codes "T"))) (member 187 (codes "b") (scalar 191 (Str (codes "i"))) (member 195 (codes "@graph") (array 204 (item (object 205 (member 206 (codes "@id") (scalar 212 (Str (codes "http://a/x"))) (member 225 (codes "http://a/p") (scalar 238 (Str (codes "1"))) no_member))) no_item)) no_member)))) no_member)) no_member)))) (codes "<http://a/s> <http://a/g> <http://a/k> .\n" ∷ codes "<http://a/x> <http://a/p> \"1\" <http://a/k> .\n" ∷ []) ≡ true
+unfolding says_in_both
+row_32 = refl
+
+-- {"@context":{"g":{"@id":"http://a/g","@container":["@graph","@id"]}},"@id":"http://a/s","g":{"http://a/k":{"@type":[],"@graph":[{"@id":"http://a/x","http://a/p":"1"}]}}}
+-- Before the rest there is more than `@id` and `@index`: a node, which names the graph of its content, in a graph named by the key.
+row_33 : says_in_both None [] (object 0 (member 1 (codes "@context") (object 12 (member 13 (codes "g") (object 17 (member 18 (codes "@id") (scalar 24 (Str (codes "http://a/g"))) (member 37 (codes "@container") (array 50 (item (scalar 51 (Str (codes "@graph"))) (item (scalar 60 (Str (codes "@id"))) no_item))) no_member))) no_member)) (member 69 (codes "@id") (scalar 75 (Str (codes "http://a/s"))) (member 88 (codes "g") (object 92 (member 93 (codes "http://a/k") (object 106 (member 107 (codes "@type") (array 115 no_item) (member 118 (codes "@graph") (array 127 (item (object 128 (member 129 (codes "@id") (scalar 135 (Str (codes "http://a/x"))) (member 148 (codes "http://a/p") (scalar 161 (Str (codes "1"))) no_member))) no_item)) no_member))) no_member)) no_member)))) (codes "<http://a/s> <http://a/g> <http://a/k> .\n" ∷ codes "<http://a/x> <http://a/p> \"1\" _:jlb106 .\n" ∷ []) ≡ true
+unfolding says_in_both
+row_33 = refl

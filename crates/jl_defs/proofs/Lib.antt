@@ -15,3 +15,4 @@ pub mod ReportedRows
 pub mod BoundRows
 pub mod SelectionRows
 pub mod OpenTextRows
+pub mod BrokenRows

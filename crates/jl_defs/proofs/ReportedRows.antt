@@ -122,3 +122,33 @@ row_22 = refl
 row_23 : reports Streaming (in_member 0 (member 1 (codes "@context") (object 12 (member 13 (codes "t") (object 17 (member 18 (codes "@id") (scalar 24 (Str (codes "http://a/t"))) (member 37 (codes "@container") (scalar 50 (Str (codes "@language"))) no_member))) no_member)) (member 64 (codes "@id") (scalar 70 (Str (codes "http://a/s"))) no_member)) (63 ∷ 82 ∷ []) 83 (codes "@reverse") (in_member 94 no_member [] 95 (codes "t") (in_member 99 (member 100 (codes "de") (scalar 105 (Str (codes "x"))) no_member) (108 ∷ []) 109 (codes "en") (in_array 114 (item (scalar 115 (Str (codes "y"))) no_item) unread)))) (fault code.InvalidReversePropertyValue 105 ∷ fault code.InvalidReversePropertyValue 115 ∷ []) ≡ true
 unfolding reports
 row_23 = refl
+
+-- streaming: {"@context":{"T":{"@id":"http://a/T","@context":{"p":"http://t/p","i":"@id"}},"i":"http://a/i"},"@id":"http://a/s","@type":"T","p":{"i"|:["x"]}}, a lone identifier isn't late before its value has begun
+row_24 : reports Streaming (in_member 0 (member 1 (codes "@context") (object 12 (member 13 (codes "T") (object 17 (member 18 (codes "@id") (scalar 24 (Str (codes "http://a/T"))) (member 37 (codes "@context") (object 48 (member 49 (codes "p") (scalar 53 (Str (codes "http://t/p"))) (member 66 (codes "i") (scalar 70 (Str (codes "@id"))) no_member))) no_member))) (member 78 (codes "i") (scalar 82 (Str (codes "http://a/i"))) no_member))) (member 96 (codes "@id") (scalar 102 (Str (codes "http://a/s"))) (member 115 (codes "@type") (scalar 123 (Str (codes "T"))) no_member))) (95 ∷ 114 ∷ 126 ∷ []) 127 (codes "p") (in_member 131 no_member [] 132 (codes "i") unread)) [] ≡ true
+unfolding reports
+row_24 = refl
+
+-- streaming: {"@context":{"T":{"@id":"http://a/T","@context":{"p":"http://t/p","i":"@id"}},"i":"http://a/i"},"@id":"http://a/s","@type":"T","p":{"i":[|"x"]}}, with the first byte it is, whatever follows
+row_25 : reports Streaming (in_member 0 (member 1 (codes "@context") (object 12 (member 13 (codes "T") (object 17 (member 18 (codes "@id") (scalar 24 (Str (codes "http://a/T"))) (member 37 (codes "@context") (object 48 (member 49 (codes "p") (scalar 53 (Str (codes "http://t/p"))) (member 66 (codes "i") (scalar 70 (Str (codes "@id"))) no_member))) no_member))) (member 78 (codes "i") (scalar 82 (Str (codes "http://a/i"))) no_member))) (member 96 (codes "@id") (scalar 102 (Str (codes "http://a/s"))) (member 115 (codes "@type") (scalar 123 (Str (codes "T"))) no_member))) (95 ∷ 114 ∷ 126 ∷ []) 127 (codes "p") (in_member 131 no_member [] 132 (codes "i") (in_array 136 no_item unread))) (fault code.InvalidIdValue 132 ∷ fault code.LateIdentifier 132 ∷ []) ≡ true
+unfolding reports
+row_25 = refl
+
+-- any: {"@context":{"T":{"@id":"http://a/T","@context":{"p":"http://t/p","i":"@id"}},"i":"http://a/i"},"@id":"http://a/s","@type":"T","p":{"i":[|"x"]}}
+row_26 : reports Any (in_member 0 (member 1 (codes "@context") (object 12 (member 13 (codes "T") (object 17 (member 18 (codes "@id") (scalar 24 (Str (codes "http://a/T"))) (member 37 (codes "@context") (object 48 (member 49 (codes "p") (scalar 53 (Str (codes "http://t/p"))) (member 66 (codes "i") (scalar 70 (Str (codes "@id"))) no_member))) no_member))) (member 78 (codes "i") (scalar 82 (Str (codes "http://a/i"))) no_member))) (member 96 (codes "@id") (scalar 102 (Str (codes "http://a/s"))) (member 115 (codes "@type") (scalar 123 (Str (codes "T"))) no_member))) (95 ∷ 114 ∷ 126 ∷ []) 127 (codes "p") (in_member 131 no_member [] 132 (codes "i") (in_array 136 no_item unread))) [] ≡ true
+unfolding reports
+row_26 = refl
+
+-- streaming: {"@context":{"T":{"@id":"http://a/T","@context":{"i":"@id"}},"i":"http://a/i"},"@id":"http://a/s","@type":"T","@reverse":{"i":{|"@id":"http://a/o"}}}, the same in the map of `@reverse`
+row_27 : reports Streaming (in_member 0 (member 1 (codes "@context") (object 12 (member 13 (codes "T") (object 17 (member 18 (codes "@id") (scalar 24 (Str (codes "http://a/T"))) (member 37 (codes "@context") (object 48 (member 49 (codes "i") (scalar 53 (Str (codes "@id"))) no_member)) no_member))) (member 61 (codes "i") (scalar 65 (Str (codes "http://a/i"))) no_member))) (member 79 (codes "@id") (scalar 85 (Str (codes "http://a/s"))) (member 98 (codes "@type") (scalar 106 (Str (codes "T"))) no_member))) (78 ∷ 97 ∷ 109 ∷ []) 110 (codes "@reverse") (in_member 121 no_member [] 122 (codes "i") (in_object 126 no_member []))) (fault code.InvalidReversePropertyMap 122 ∷ fault code.LateIdentifier 122 ∷ []) ≡ true
+unfolding reports
+row_27 = refl
+
+-- streaming: {"@id":"http://a/s","http://a/p":{"@value":[1e99|],"@type":"@json"}}, numbers of what isn't known as a JSON literal
+row_28 : reports Streaming (in_member 0 (member 1 (codes "@id") (scalar 7 (Str (codes "http://a/s"))) no_member) (19 ∷ []) 20 (codes "http://a/p") (in_member 33 no_member [] 34 (codes "@value") (in_array 43 no_item (in_scalar 44 sign)))) (fault code.InvalidValueObjectValue 34 ∷ []) ≡ true
+unfolding reports
+row_28 = refl
+
+-- streaming: {"@id":"http://a/s","http://a/p":[{"@value":[1e99],"@type":"@json"}|]}, they are judged as the object closes
+row_29 : reports Streaming (in_member 0 (member 1 (codes "@id") (scalar 7 (Str (codes "http://a/s"))) no_member) (19 ∷ []) 20 (codes "http://a/p") (in_array 33 (item (object 34 (member 35 (codes "@value") (array 44 (item (scalar 45 (Number (codes "1e99"))) no_item)) (member 51 (codes "@type") (scalar 59 (Str (codes "@json"))) no_member))) no_item) unread)) (fault code.InvalidValueObjectValue 35 ∷ fault code.NumberNotWhole 45 ∷ fault code.LateType 51 ∷ []) ≡ true
+unfolding reports
+row_29 = refl

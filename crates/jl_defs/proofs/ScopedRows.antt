@@ -144,3 +144,44 @@ row_24 = refl
 row_25 : says (settings Any None []) (object 0 (member 1 (codes "@context") (object 12 (member 13 (codes "T") (object 17 (member 18 (codes "@id") (scalar 24 (Str (codes "http://a/T"))) (member 37 (codes "@context") (object 48 (member 49 (codes "i") (scalar 53 (Str (codes "@id"))) (member 59 (codes "q") (scalar 63 (Str (codes "http://t/q"))) no_member))) no_member))) (member 78 (codes "p") (object 82 (member 83 (codes "@id") (scalar 89 (Str (codes "http://a/p"))) (member 102 (codes "@context") (object 113 (member 114 (codes "i") (scalar 118 (Str (codes "http://x/i"))) no_member)) no_member))) (member 133 (codes "q") (scalar 137 (Str (codes "http://a/q"))) no_member)))) (member 151 (codes "@id") (scalar 157 (Str (codes "http://a/s"))) (member 170 (codes "@type") (scalar 178 (Str (codes "T"))) (member 182 (codes "p") (object 186 (member 187 (codes "i") (object 191 (member 192 (codes "@id") (scalar 198 (Str (codes "http://a/o"))) no_member)) (member 212 (codes "q") (scalar 216 (Str (codes "x"))) no_member))) no_member))))) (codes "<http://a/s> <http://www.w3.org/1999/02/22-rdf-syntax-ns#type> <http://a/T> .\n" ∷ codes "<http://a/s> <http://a/p> _:jlb186 .\n" ∷ codes "_:jlb186 <http://x/i> <http://a/o> .\n" ∷ codes "_:jlb186 <http://a/q> \"x\" .\n" ∷ []) ≡ true
 unfolding says
 row_25 = refl
+
+-- {"@context":{"T":{"@id":"http://a/T","@context":{"i":"@id","q":"http://t/q"}},"p":{"@id":"http://a/p","@context":{"i":"http://x/i"}},"q":"http://a/q"},"@id":"http://a/s","@type":"T","p":{"i":{"@id":"http://a/o"}}}
+-- The same key alone: where all members are known it is single, and the object doesn't go back.
+row_26_any : says (settings Any None []) (object 0 (member 1 (codes "@context") (object 12 (member 13 (codes "T") (object 17 (member 18 (codes "@id") (scalar 24 (Str (codes "http://a/T"))) (member 37 (codes "@context") (object 48 (member 49 (codes "i") (scalar 53 (Str (codes "@id"))) (member 59 (codes "q") (scalar 63 (Str (codes "http://t/q"))) no_member))) no_member))) (member 78 (codes "p") (object 82 (member 83 (codes "@id") (scalar 89 (Str (codes "http://a/p"))) (member 102 (codes "@context") (object 113 (member 114 (codes "i") (scalar 118 (Str (codes "http://x/i"))) no_member)) no_member))) (member 133 (codes "q") (scalar 137 (Str (codes "http://a/q"))) no_member)))) (member 151 (codes "@id") (scalar 157 (Str (codes "http://a/s"))) (member 170 (codes "@type") (scalar 178 (Str (codes "T"))) (member 182 (codes "p") (object 186 (member 187 (codes "i") (object 191 (member 192 (codes "@id") (scalar 198 (Str (codes "http://a/o"))) no_member)) no_member)) no_member))))) (codes "<http://a/s> <http://a/p> _:jlb186 .\n" ∷ codes "<http://a/s> <http://www.w3.org/1999/02/22-rdf-syntax-ns#type> <http://a/T> .\n" ∷ codes "_:jlb186 <http://x/i> <http://a/o> .\n" ∷ []) ≡ true
+unfolding says
+row_26_any = refl
+
+row_26_streaming : is_refused (settings Streaming None []) (object 0 (member 1 (codes "@context") (object 12 (member 13 (codes "T") (object 17 (member 18 (codes "@id") (scalar 24 (Str (codes "http://a/T"))) (member 37 (codes "@context") (object 48 (member 49 (codes "i") (scalar 53 (Str (codes "@id"))) (member 59 (codes "q") (scalar 63 (Str (codes "http://t/q"))) no_member))) no_member))) (member 78 (codes "p") (object 82 (member 83 (codes "@id") (scalar 89 (Str (codes "http://a/p"))) (member 102 (codes "@context") (object 113 (member 114 (codes "i") (scalar 118 (Str (codes "http://x/i"))) no_member)) no_member))) (member 133 (codes "q") (scalar 137 (Str (codes "http://a/q"))) no_member)))) (member 151 (codes "@id") (scalar 157 (Str (codes "http://a/s"))) (member 170 (codes "@type") (scalar 178 (Str (codes "T"))) (member 182 (codes "p") (object 186 (member 187 (codes "i") (object 191 (member 192 (codes "@id") (scalar 198 (Str (codes "http://a/o"))) no_member)) no_member)) no_member))))) (fault code.LateIdentifier 187 ∷ []) ≡ true
+unfolding is_refused
+row_26_streaming = refl
+
+-- {"@context":{"T":{"@id":"http://a/T","@context":{"p":"http://t/p","i":"@id"}},"i":"http://a/i"},"@id":"http://a/s","@type":"T","p":{"i":["x"]}}
+row_27_any : is_refused (settings Any None []) (object 0 (member 1 (codes "@context") (object 12 (member 13 (codes "T") (object 17 (member 18 (codes "@id") (scalar 24 (Str (codes "http://a/T"))) (member 37 (codes "@context") (object 48 (member 49 (codes "p") (scalar 53 (Str (codes "http://t/p"))) (member 66 (codes "i") (scalar 70 (Str (codes "@id"))) no_member))) no_member))) (member 78 (codes "i") (scalar 82 (Str (codes "http://a/i"))) no_member))) (member 96 (codes "@id") (scalar 102 (Str (codes "http://a/s"))) (member 115 (codes "@type") (scalar 123 (Str (codes "T"))) (member 127 (codes "p") (object 131 (member 132 (codes "i") (array 136 (item (scalar 137 (Str (codes "x"))) no_item)) no_member)) no_member))))) (fault code.InvalidIdValue 132 ∷ []) ≡ true
+unfolding is_refused
+row_27_any = refl
+
+row_27_streaming : is_refused (settings Streaming None []) (object 0 (member 1 (codes "@context") (object 12 (member 13 (codes "T") (object 17 (member 18 (codes "@id") (scalar 24 (Str (codes "http://a/T"))) (member 37 (codes "@context") (object 48 (member 49 (codes "p") (scalar 53 (Str (codes "http://t/p"))) (member 66 (codes "i") (scalar 70 (Str (codes "@id"))) no_member))) no_member))) (member 78 (codes "i") (scalar 82 (Str (codes "http://a/i"))) no_member))) (member 96 (codes "@id") (scalar 102 (Str (codes "http://a/s"))) (member 115 (codes "@type") (scalar 123 (Str (codes "T"))) (member 127 (codes "p") (object 131 (member 132 (codes "i") (array 136 (item (scalar 137 (Str (codes "x"))) no_item)) no_member)) no_member))))) (fault code.InvalidIdValue 132 ∷ fault code.LateIdentifier 132 ∷ []) ≡ true
+unfolding is_refused
+row_27_streaming = refl
+
+-- {"@context":{"T":{"@id":"http://a/T","@context":{"i":"@id"}},"i":"http://a/i"},"@id":"http://a/s","@type":"T","@reverse":{"i":{"@id":"http://a/o"},"http://a/q":{"@id":"http://a/r"}}}
+-- The map of `@reverse` may go back too.
+row_28_any : says (settings Any None []) (object 0 (member 1 (codes "@context") (object 12 (member 13 (codes "T") (object 17 (member 18 (codes "@id") (scalar 24 (Str (codes "http://a/T"))) (member 37 (codes "@context") (object 48 (member 49 (codes "i") (scalar 53 (Str (codes "@id"))) no_member)) no_member))) (member 61 (codes "i") (scalar 65 (Str (codes "http://a/i"))) no_member))) (member 79 (codes "@id") (scalar 85 (Str (codes "http://a/s"))) (member 98 (codes "@type") (scalar 106 (Str (codes "T"))) (member 110 (codes "@reverse") (object 121 (member 122 (codes "i") (object 126 (member 127 (codes "@id") (scalar 133 (Str (codes "http://a/o"))) no_member)) (member 147 (codes "http://a/q") (object 160 (member 161 (codes "@id") (scalar 167 (Str (codes "http://a/r"))) no_member)) no_member))) no_member))))) (codes "<http://a/o> <http://a/i> <http://a/s> .\n" ∷ codes "<http://a/r> <http://a/q> <http://a/s> .\n" ∷ codes "<http://a/s> <http://www.w3.org/1999/02/22-rdf-syntax-ns#type> <http://a/T> .\n" ∷ []) ≡ true
+unfolding says
+row_28_any = refl
+
+row_28_streaming : is_refused (settings Streaming None []) (object 0 (member 1 (codes "@context") (object 12 (member 13 (codes "T") (object 17 (member 18 (codes "@id") (scalar 24 (Str (codes "http://a/T"))) (member 37 (codes "@context") (object 48 (member 49 (codes "i") (scalar 53 (Str (codes "@id"))) no_member)) no_member))) (member 61 (codes "i") (scalar 65 (Str (codes "http://a/i"))) no_member))) (member 79 (codes "@id") (scalar 85 (Str (codes "http://a/s"))) (member 98 (codes "@type") (scalar 106 (Str (codes "T"))) (member 110 (codes "@reverse") (object 121 (member 122 (codes "i") (object 126 (member 127 (codes "@id") (scalar 133 (Str (codes "http://a/o"))) no_member)) (member 147 (codes "http://a/q") (object 160 (member 161 (codes "@id") (scalar 167 (Str (codes "http://a/r"))) no_member)) no_member))) no_member))))) (fault code.InvalidReversePropertyMap 122 ∷ fault code.LateIdentifier 122 ∷ []) ≡ true
+unfolding is_refused
+row_28_streaming = refl
+
+-- {"@context":{"T":{"@id":"http://a/T","@context":{"p":"http://t/p","i":"@id"}},"i":"http://a/i"},"@id":"http://a/s","@type":"T","p":{"@context":{},"i":["x"],"http://a/q":"y"}}
+-- With a context of its own the object isn't single, and nothing is late.
+row_29 : says_in_both None [] (object 0 (member 1 (codes "@context") (object 12 (member 13 (codes "T") (object 17 (member 18 (codes "@id") (scalar 24 (Str (codes "http://a/T"))) (member 37 (codes "@context") (object 48 (member 49 (codes "p") (scalar 53 (Str (codes "http://t/p"))) (member 66 (codes "i") (scalar 70 (Str (codes "@id"))) no_member))) no_member))) (member 78 (codes "i") (scalar 82 (Str (codes "http://a/i"))) no_member))) (member 96 (codes "@id") (scalar 102 (Str (codes "http://a/s"))) (member 115 (codes "@type") (scalar 123 (Str (codes "T"))) (member 127 (codes "p") (object 131 (member 132 (codes "@context") (object 143 no_member) (member 146 (codes "i") (array 150 (item (scalar 151 (Str (codes "x"))) no_item)) (member 156 (codes "http://a/q") (scalar 169 (Str (codes "y"))) no_member)))) no_member))))) (codes "<http://a/s> <http://t/p> _:jlb131 .\n" ∷ codes "<http://a/s> <http://www.w3.org/1999/02/22-rdf-syntax-ns#type> <http://a/T> .\n" ∷ codes "_:jlb131 <http://a/i> \"x\" .\n" ∷ codes "_:jlb131 <http://a/q> \"y\" .\n" ∷ []) ≡ true
+unfolding says_in_both
+row_29 = refl
+
+-- {"@context":{"T":{"@id":"http://a/T","@context":{"m":{"@id":"http://t/m","@container":"@index"},"i":"@id"}},"i":"http://a/i"},"@id":"http://a/s","@type":"T","m":{"k":{"i":["x"],"http://a/q":"y"}}}
+-- The value of a map's entry doesn't go back, so its first key isn't late.
+row_30 : is_refused_in_both None [] (object 0 (member 1 (codes "@context") (object 12 (member 13 (codes "T") (object 17 (member 18 (codes "@id") (scalar 24 (Str (codes "http://a/T"))) (member 37 (codes "@context") (object 48 (member 49 (codes "m") (object 53 (member 54 (codes "@id") (scalar 60 (Str (codes "http://t/m"))) (member 73 (codes "@container") (scalar 86 (Str (codes "@index"))) no_member))) (member 96 (codes "i") (scalar 100 (Str (codes "@id"))) no_member))) no_member))) (member 108 (codes "i") (scalar 112 (Str (codes "http://a/i"))) no_member))) (member 126 (codes "@id") (scalar 132 (Str (codes "http://a/s"))) (member 145 (codes "@type") (scalar 153 (Str (codes "T"))) (member 157 (codes "m") (object 161 (member 162 (codes "k") (object 166 (member 167 (codes "i") (array 171 (item (scalar 172 (Str (codes "x"))) no_item)) (member 177 (codes "http://a/q") (scalar 190 (Str (codes "y"))) no_member))) no_member)) no_member))))) (fault code.InvalidIdValue 167 ∷ []) ≡ true
+unfolding is_refused_in_both
+row_30 = refl

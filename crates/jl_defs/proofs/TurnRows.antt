@@ -95,3 +95,21 @@ row_17 = refl
 row_18 : is_refused_in_both None [] (object 0 (member 1 (codes "@context") (object 12 (member 13 (codes "r") (object 17 (member 18 (codes "@reverse") (scalar 29 (Str (codes "http://a/r"))) no_member)) no_member)) (member 44 (codes "@id") (scalar 50 (Str (codes "http://a/s"))) (member 63 (codes "@reverse") (object 74 (member 75 (codes "r") (scalar 79 (Str (codes "x"))) no_member)) no_member)))) (fault code.InvalidReversePropertyValue 79 ∷ []) ≡ true
 unfolding is_refused_in_both
 row_18 = refl
+
+-- {"@context":{"r":"@reverse"},"@id":"http://a/s","@reverse":{"http://a/p":{"@id":"http://a/o"}},"r":{}}
+-- A second `@reverse` collides after one that put an entry, also where it is empty.
+row_19 : is_refused_in_both None [] (object 0 (member 1 (codes "@context") (object 12 (member 13 (codes "r") (scalar 17 (Str (codes "@reverse"))) no_member)) (member 29 (codes "@id") (scalar 35 (Str (codes "http://a/s"))) (member 48 (codes "@reverse") (object 59 (member 60 (codes "http://a/p") (object 73 (member 74 (codes "@id") (scalar 80 (Str (codes "http://a/o"))) no_member)) no_member)) (member 95 (codes "r") (object 99 no_member) no_member))))) (fault code.CollidingKeywords 95 ∷ []) ≡ true
+unfolding is_refused_in_both
+row_19 = refl
+
+-- {"@context":{"r":"@reverse"},"@id":"http://a/s","@reverse":{},"r":{"http://a/p":{"@id":"http://a/o"}}}
+-- An empty one puts no entry.
+row_20 : says_in_both None [] (object 0 (member 1 (codes "@context") (object 12 (member 13 (codes "r") (scalar 17 (Str (codes "@reverse"))) no_member)) (member 29 (codes "@id") (scalar 35 (Str (codes "http://a/s"))) (member 48 (codes "@reverse") (object 59 no_member) (member 62 (codes "r") (object 66 (member 67 (codes "http://a/p") (object 80 (member 81 (codes "@id") (scalar 87 (Str (codes "http://a/o"))) no_member)) no_member)) no_member))))) (codes "<http://a/o> <http://a/p> <http://a/s> .\n" ∷ []) ≡ true
+unfolding says_in_both
+row_20 = refl
+
+-- {"@id":"http://a/s","@included":{"@language":"en","http://a/q":{"@context":5}}}
+-- A property whose object has faulty contexts is an entry, so the language doesn't stand alone.
+row_21 : is_refused_in_both None [] (object 0 (member 1 (codes "@id") (scalar 7 (Str (codes "http://a/s"))) (member 20 (codes "@included") (object 32 (member 33 (codes "@language") (scalar 45 (Str (codes "en"))) (member 50 (codes "http://a/q") (object 63 (member 64 (codes "@context") (scalar 75 (Number (codes "5"))) no_member)) no_member))) no_member))) (fault code.InvalidLocalContext 64 ∷ []) ≡ true
+unfolding is_refused_in_both
+row_21 = refl

@@ -95,3 +95,48 @@ row_16 = refl
 row_17 : says_in_both None [] (object 0 (member 1 (codes "@context") (object 12 (member 13 (codes "p") (object 17 (member 18 (codes "@id") (scalar 24 (Str (codes "http://a/p"))) (member 37 (codes "@context") (object 48 (member 49 (codes "p") (object 53 (member 54 (codes "@id") (scalar 60 (Str (codes "http://a/p"))) (member 73 (codes "@type") (scalar 81 (Str (codes "@json"))) no_member))) no_member)) no_member))) no_member)) (member 93 (codes "@id") (scalar 99 (Str (codes "http://a/s"))) (member 112 (codes "p") (scalar 116 (Str (codes "x"))) no_member)))) [] ≡ true
 unfolding says_in_both
 row_17 = refl
+
+-- {"http://a/p":{"@value":[1e99],"@type":"@json"}}
+-- A late type makes a JSON literal all the same, so its numbers are judged.
+row_18_any : is_refused (settings Any None []) (object 0 (member 1 (codes "http://a/p") (object 14 (member 15 (codes "@value") (array 24 (item (scalar 25 (Number (codes "1e99"))) no_item)) (member 31 (codes "@type") (scalar 39 (Str (codes "@json"))) no_member))) no_member)) (fault code.NumberNotWhole 25 ∷ []) ≡ true
+unfolding is_refused
+row_18_any = refl
+
+row_18_streaming : is_refused (settings Streaming None []) (object 0 (member 1 (codes "http://a/p") (object 14 (member 15 (codes "@value") (array 24 (item (scalar 25 (Number (codes "1e99"))) no_item)) (member 31 (codes "@type") (scalar 39 (Str (codes "@json"))) no_member))) no_member)) (fault code.InvalidValueObjectValue 15 ∷ fault code.NumberNotWhole 25 ∷ fault code.LateType 31 ∷ []) ≡ true
+unfolding is_refused
+row_18_streaming = refl
+
+-- {"@context":{"J":{"@id":"@json","@context":{"J":"http://a/J"}}},"@id":"http://a/s","http://a/p":{"@type":"J","@value":[1]}}
+-- The one type is `@json`, which the base tells, but the input type, which the final context tells, isn't.
+row_19 : is_refused_in_both None [] (object 0 (member 1 (codes "@context") (object 12 (member 13 (codes "J") (object 17 (member 18 (codes "@id") (scalar 24 (Str (codes "@json"))) (member 32 (codes "@context") (object 43 (member 44 (codes "J") (scalar 48 (Str (codes "http://a/J"))) no_member)) no_member))) no_member)) (member 64 (codes "@id") (scalar 70 (Str (codes "http://a/s"))) (member 83 (codes "http://a/p") (object 96 (member 97 (codes "@type") (scalar 105 (Str (codes "J"))) (member 109 (codes "@value") (array 118 (item (scalar 119 (Number (codes "1"))) no_item)) no_member))) no_member)))) (fault code.InvalidValueObjectValue 109 ∷ []) ≡ true
+unfolding is_refused_in_both
+row_19 = refl
+
+-- {"@context":{"J":{"@id":"@json","@context":{"J":"http://a/J"}}},"@id":"http://a/s","http://a/p":[{"@type":"J","@value":1},{"@type":"J","@value":1.5}]}
+-- A scalar there is a JSON literal by its one type alone, and its number is judged as the object closes.
+row_20 : is_refused_in_both None [] (object 0 (member 1 (codes "@context") (object 12 (member 13 (codes "J") (object 17 (member 18 (codes "@id") (scalar 24 (Str (codes "@json"))) (member 32 (codes "@context") (object 43 (member 44 (codes "J") (scalar 48 (Str (codes "http://a/J"))) no_member)) no_member))) no_member)) (member 64 (codes "@id") (scalar 70 (Str (codes "http://a/s"))) (member 83 (codes "http://a/p") (array 96 (item (object 97 (member 98 (codes "@type") (scalar 106 (Str (codes "J"))) (member 110 (codes "@value") (scalar 119 (Number (codes "1"))) no_member))) (item (object 122 (member 123 (codes "@type") (scalar 131 (Str (codes "J"))) (member 135 (codes "@value") (scalar 144 (Number (codes "1.5"))) no_member))) no_item))) no_member)))) (fault code.NumberNotWhole 144 ∷ []) ≡ true
+unfolding is_refused_in_both
+row_20 = refl
+
+-- {"@id":"http://a/s","http://a/p":[{"@type":"@json","@value":1.5},{"@type":"@json","@value":1.5,"@id":"x"}]}
+-- Under the input type `@json` a number is judged whatever else is wrong.
+row_21 : is_refused_in_both None [] (object 0 (member 1 (codes "@id") (scalar 7 (Str (codes "http://a/s"))) (member 20 (codes "http://a/p") (array 33 (item (object 34 (member 35 (codes "@type") (scalar 43 (Str (codes "@json"))) (member 51 (codes "@value") (scalar 60 (Number (codes "1.5"))) no_member))) (item (object 65 (member 66 (codes "@type") (scalar 74 (Str (codes "@json"))) (member 82 (codes "@value") (scalar 91 (Number (codes "1.5"))) (member 95 (codes "@id") (scalar 101 (Str (codes "x"))) no_member)))) no_item))) no_member))) (fault code.NumberNotWhole 60 ∷ fault code.InvalidValueObject 65 ∷ fault code.NumberNotWhole 91 ∷ []) ≡ true
+unfolding is_refused_in_both
+row_21 = refl
+
+-- {"@id":"http://a/s","http://a/p":{"@value":"x","http://a/q":{"@context":5}}}
+-- A property whose object has faulty contexts is an entry.
+row_22 : is_refused_in_both None [] (object 0 (member 1 (codes "@id") (scalar 7 (Str (codes "http://a/s"))) (member 20 (codes "http://a/p") (object 33 (member 34 (codes "@value") (scalar 43 (Str (codes "x"))) (member 47 (codes "http://a/q") (object 60 (member 61 (codes "@context") (scalar 72 (Number (codes "5"))) no_member)) no_member))) no_member))) (fault code.InvalidValueObject 33 ∷ fault code.InvalidLocalContext 61 ∷ []) ≡ true
+unfolding is_refused_in_both
+row_22 = refl
+
+-- {"@id":"http://a/s","http://a/p":{"@value":"x","http://a/q":null}}
+-- A property whose value is null is none.
+row_23 : says_in_both None [] (object 0 (member 1 (codes "@id") (scalar 7 (Str (codes "http://a/s"))) (member 20 (codes "http://a/p") (object 33 (member 34 (codes "@value") (scalar 43 (Str (codes "x"))) (member 47 (codes "http://a/q") (scalar 60 Null) no_member))) no_member))) (codes "<http://a/s> <http://a/p> \"x\" .\n" ∷ []) ≡ true
+unfolding says_in_both
+row_23 = refl
+
+-- {"@id":"http://a/s","http://a/p":{"@list":[],"http://a/q":{"@context":5}}}
+row_24 : is_refused_in_both None [] (object 0 (member 1 (codes "@id") (scalar 7 (Str (codes "http://a/s"))) (member 20 (codes "http://a/p") (object 33 (member 34 (codes "@list") (array 42 no_item) (member 45 (codes "http://a/q") (object 58 (member 59 (codes "@context") (scalar 70 (Number (codes "5"))) no_member)) no_member))) no_member))) (fault code.InvalidSetOrListObject 33 ∷ fault code.InvalidLocalContext 59 ∷ []) ≡ true
+unfolding is_refused_in_both
+row_24 = refl

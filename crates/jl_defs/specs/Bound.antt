@@ -129,7 +129,7 @@ handed_bytes i no_member ends = 0
 handed_bytes i (member a name v rest) [] = 0
 handed_bytes i (member a name v rest) (e ∷ ends) = handed_member i name a e + handed_bytes i rest ends
 
--- what is open behind closed members: nothing, a key, or a member
+-- what is open after closed members: nothing, a key, or a member
 pub data Tail : Type 0 where
   no_tail : Tail
   key_tail : (at : ℕ) → Tail
@@ -221,20 +221,22 @@ node_in s p m at i ms t = by p.under
     by reverse_property = record { subject = m.subject; scope = m.scope; content = m.scope; pure = false }
     by under = node_of s p at i ms (tail_entry i p.under t)
 
--- the key of a map's entry is in force in the first object below the map, until a key for a property has been read there
 abbrev pub is_property : Key → Bool
 is_property (property iri) = true
 is_property k = false
 
+-- a key for a property has been read
 abbrev pub has_property : Context → Members → Tail → Bool
 has_property d no_member no_tail = false
 has_property d no_member (key_tail at) = false
 has_property d no_member (member_tail at name next) = is_property (key_of d name)
 has_property d (member a name v rest) t = is_property (key_of d name) || has_property d rest t
 
+-- the key of a map's entry is in force in the first object below the map, until a key for a property has been read there
 abbrev pub entry_key : Context → Members → Tail → Text → Text
 entry_key d ms t key = elim (has_property d ms t) [ true ↦ [] | false ↦ key ]
 
+-- below an object the key of the map's entry that it stands in isn't in force
 abbrev pub below_object : Names → Names
 below_object m = record m { key = [] }
 

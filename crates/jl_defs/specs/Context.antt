@@ -110,7 +110,7 @@ previous c = of_levels c.previous
 abbrev pub with_previous : Context → Context → Context
 with_previous c p = record c { previous = p.level ∷ p.previous }
 
--- the bytes of a text that may be absent
+-- What a context weighs (this project's own rules): first the bytes of a text that may be absent.
 abbrev pub text_size : Option Text → ℕ
 text_size None = 0
 text_size (Some text) = length text

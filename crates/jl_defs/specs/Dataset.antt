@@ -67,6 +67,7 @@ is_subject (Iri iri) = true
 is_subject (Blank label) = true
 is_subject (Literal lit) = false
 
+-- a quad, or the one whose subject and object have changed places
 abbrev pub turned : Bool → GraphScope → Term → Text → Term → List Parts
 turned true scope s p o = elim (is_subject s) [ true ↦ quad_in scope s p o | false ↦ [] ]
 turned false scope s p o = elim (is_subject o) [ true ↦ quad_in scope o p s | false ↦ [] ]

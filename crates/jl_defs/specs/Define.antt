@@ -83,7 +83,7 @@ expand_local define p text vocab relative =
       | false ↦ define_parts define p text vocab >>= (λ q. Ok (record { progress = q; expanded = expand_iri q.built text vocab relative }))
     ]
 
--- a term's own name counts as defined
+-- a term's own name counts as defined (step 14.2.4, and this project's own choice for step 16)
 abbrev pub but_for : Text → Define → Define
 but_for name define p text = elim (bytes_eq text name) [ true ↦ Ok p | false ↦ define p text ]
 
@@ -108,13 +108,13 @@ type_mapping define p (Some text) = do
   kind ← type_of f.expanded
   Ok (made f.progress (Some kind))
 
--- a reverse property (step 13): an IRI or a blank node
+-- a reverse property (step 13.4): an IRI or a blank node
 abbrev pub reverse_of : Expanded → Result Text Code
 reverse_of (Name text) = require (is_iri text || is_blank text) code.InvalidIriMapping >>= (λ _. Ok text)
 reverse_of Null = Err code.InvalidIriMapping
 reverse_of (Keyword text) = Err code.InvalidIriMapping
 
--- what `@id` may give (step 14.2): a keyword but `@context`, an IRI or a blank node
+-- what `@id` may give (step 14.2.3): a keyword but `@context`, an IRI or a blank node
 abbrev pub mapping_of : Expanded → Result Text Code
 mapping_of Null = Err code.InvalidIriMapping
 mapping_of (Keyword text) = require (not (bytes_eq text (codes "@context"))) code.InvalidKeywordAlias >>= (λ _. Ok text)
@@ -165,7 +165,7 @@ abbrev pub mapping_by_vocab : Progress → Text → Option Text → Result Made 
 mapping_by_vocab p name None = Err code.InvalidIriMapping
 mapping_by_vocab p name (Some vocab) = Ok (made p (Some (vocab ++ name)))
 
--- an IRI (step 16)
+-- an IRI (steps 16 and 20)
 abbrev pub iri_of : Code → Expanded → Result Text Code
 iri_of c Null = Err c
 iri_of c (Keyword text) = Err c
@@ -204,6 +204,7 @@ is_given name lang.Absent = false
 is_given name lang.Null = true
 is_given name (lang.Tag id) = not (bytes_eq id name)
 
+-- a term is a prefix by itself only where its mapping was given by `@id`
 abbrev pub own_prefix : Text → RawEntry → Option Text → Bool
 own_prefix name raw None = false
 own_prefix name raw (Some mapping) = is_given name raw.id && prefix_flag name raw.simple mapping
@@ -234,7 +235,8 @@ check_index define p (Some index) = do
   _ ← iri_of code.InvalidTermDefinition f.expanded
   Ok f.progress
 
--- the scoped context is processed once, to find its faults (step 21)
+-- the scoped context is processed once, to find its faults (step 21), over the context built so far: the term itself and those
+-- that wait for it are out, their older definitions too (this project's own choice)
 abbrev pub try_scoped : LocalMap → Context → Option Tree → Option Change → Result (Option Scoped) Code
 try_scoped m c None change = Ok None
 try_scoped m c (Some t) None = Ok (Some (record { local = t; base = m.url }))
@@ -288,7 +290,7 @@ forward_definition m raw mapping prefix kind scoped = record {
   scoped = scoped;
 }
 
--- the steps behind the type mapping
+-- the steps after the type mapping
 abbrev pub define_rest : LocalMap → Define → Entry → RawEntry → Progress → Option Text → Option Text → Result (Progress × TermDef) Code
 define_rest m define e raw p kind (Some reverse) = do
   f ← expand_local define p reverse true false
@@ -302,7 +304,8 @@ define_rest m define e raw p kind None = do
   scoped ← try_scoped m q.built raw.local e.scoped
   Ok (q, forward_definition m raw mapped.text prefix kind' scoped)
 
--- an entry is defined without its older definition, and ignored ones change nothing
+-- an entry is defined without its older definition (step 6); one that is ignored changes nothing, and the older one stays (this
+-- project's own choice)
 abbrev pub define_raw : LocalMap → Define → Progress → Entry → RawEntry → Result Progress Code
 define_raw m define p e raw =
     elim raw.ignored [
@@ -313,11 +316,12 @@ define_raw m define p e raw =
         finish m e.name p.pending (term p.built e.name) r.0 r.1)
     ]
 
+-- an entry that is no term, as `@vocab` beside a prefix of that spelling, is refused as a keyword (this project's own choice)
 abbrev pub define_entry : LocalMap → Define → Progress → Option Entry → Result Progress Code
 define_entry m define p None = Ok p
 define_entry m define p (Some e) = read_entry e.name e.value >>= (λ raw. define_raw m define p e raw)
 
--- A name is defined once, where the map has it. The number bounds how deep definitions may lead to one another; each step
+-- A name is defined once, where the map has it (step 1). The number bounds how deep definitions may lead to one another; each step
 -- adds an entry to those in the middle, so one more than the entries is never used up.
 unfoldable pub define : ℕ → LocalMap → Define
 define zero m p name = Err code.CyclicIriMapping

@@ -29,7 +29,7 @@ same_scalar (Number a) (Number b) = bytes_eq a b
 same_scalar (Str a) (Str b) = bytes_eq a b
 same_scalar v w = false
 
--- the same value, whatever its places; members are compared in their order
+-- the same value, whatever its places; members are compared in their order (this project's own choice)
 unfoldable mutual
   pub same_tree : Tree → Tree → Bool
   same_tree (scalar at v) (scalar at' w) = same_scalar v w

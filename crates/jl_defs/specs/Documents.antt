@@ -57,7 +57,7 @@ in_form (f ∷ fs) = elim (is_late f.code) [ true ↦ false | false ↦ in_form 
 abbrev pub InForm : Settings → Tree → Type 0
 InForm s t = in_form (faults s t) ≡ true
 
--- a string that is open: no quote closes it, and a backslash takes the byte behind it along
+-- a string that is open: no quote closes it, and a backslash takes the byte after it along
 abbrev pub is_open : List ℕ → Bool
 is_open [] = true
 is_open (c ∷ []) = not (c == 34)
@@ -77,8 +77,8 @@ string_at (in_key at ms ends a) = Some a
 string_at (in_member at ms ends a name next) = string_at next
 string_at (whole t) = None
 
--- bytes that became unreadable in a string, which is still open and is read as a key or a scalar: up to the byte that
--- broke it they open a text, and they break off no string since
+-- bytes that became unreadable in a string, a key or a scalar, that is still open: up to the byte that broke it they open a text,
+-- and no quote has closed it since
 pub record BrokenString (bytes : List ℕ) (o : Open) : Type 0 where
   pub front : List ℕ
   pub byte : ℕ
@@ -94,8 +94,8 @@ pub record BrokenString (bytes : List ℕ) (o : Open) : Type 0 where
 abbrev pub Breaks : List ℕ → Type 0
 Breaks bytes = (Begins 0 bytes → ⊥) × ((o : Open) → BrokenString bytes o → ⊥)
 
--- the bound of bytes: in an open string that isn't readable it is as if that were, and at other bytes that aren't
--- readable it stays
+-- the bound of bytes. Where they are readable it is that of what has been read; where they became unreadable in a string that is
+-- still open, as if that string were readable so far; else that of the bytes without the last one
 pub data BoundOf (s : Settings) : List ℕ → ℕ → Type 0 where
   readable : (bytes : List ℕ) → (o : Open) → Opens bytes o → BoundOf s bytes (bound s (length bytes) o)
   in_string : (bytes : List ℕ) → (o : Open) → BrokenString bytes o → BoundOf s bytes (bound s (length bytes) o)

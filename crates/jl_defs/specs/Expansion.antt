@@ -21,7 +21,7 @@ use Rattle.jl_defs.specs.Kept.{Role, own_member, nested_member, reversed_member,
 use Rattle.jl_defs.specs.Graphs.{Shape, value_object, list_object, set_object, language_alone, graph_alone, node_object, reads_as_graph, shape_of}
 use Rattle.jl_defs.specs.Maps.{addition, all_with_addition, entry_stand, entry_context, language_key, language_values}
 
--- an item of a graph map is wrapped in a graph, unless it is a graph object
+-- an item of a graph map, which is wrapped in a graph; a graph object isn't handed to this
 abbrev pub in_graph : Stand → Item → Item
 in_graph graph_entry x = wrapped x
 in_graph root x = x
@@ -49,7 +49,7 @@ abbrev pub decided_items : Result Inside Fault → (Inside → Option Items) →
 decided_items (Ok i) answer = answer i
 decided_items (Err e) answer = None
 
--- the identifier of an object, expanded with relative; null counts as none
+-- the identifier of an object, expanded with relative; null counts as none (this project's own choice)
 abbrev pub naming_by : Expanded → Naming
 naming_by expanded.Null = by_object
 naming_by (expanded.Keyword text) = named text
@@ -102,21 +102,22 @@ object_items language_alone under stand i at ms its_list its_set content its_ent
 object_items graph_alone under stand i at ms its_list its_set content its_entries = Some (graph_items stand (node_at at (naming i.final ms) (its_entries tt)) content)
 object_items node_object under stand i at ms its_list its_set content its_entries = Some (one (in_graph stand (node_at at (naming i.final ms) (its_entries tt))))
 
--- a property goes forward, but that of a reverse term, and each is turned under `@reverse`
 abbrev pub is_reverse_term : Option TermDef → Bool
 is_reverse_term None = false
 is_reverse_term (Some t) = t.reverse
 
+-- a property goes forward, but that of a reverse term; under `@reverse` each is turned
 abbrev pub goes_forward : Role → Option TermDef → Bool
 goes_forward reversed_member t = is_reverse_term t
 goes_forward own_member t = not (is_reverse_term t)
 goes_forward nested_member t = not (is_reverse_term t)
 
--- the values of a container with `@list` are one list, those of one with `@graph` are wrapped
+-- the container has `@graph`, and keys name no graphs in it
 abbrev pub is_plain_graph : Option TermDef → Bool
 is_plain_graph None = false
 is_plain_graph (Some t) = t.containers.graph && not (t.containers.id || t.containers.index)
 
+-- the values of a container with `@list` are one list, those of one with `@graph` are wrapped (steps 13.11 and 13.12)
 abbrev pub contained_items : Option TermDef → Bool → ℕ → Items → Items
 contained_items t is_list at xs =
     elim (lists t && not is_list) [
@@ -163,7 +164,7 @@ abbrev pub decided_said : Result Inside Fault → (Inside → NodeEntries) → N
 decided_said (Ok i) answer = answer i
 decided_said (Err e) answer = nothing_said
 
--- the items of a map's entry, with what its key adds
+-- the items of a map's entry in the context of its value; none where that is at fault
 abbrev pub in_entry : Result Context Code → (Context → Option Items) → Items
 in_entry (Ok c) answer = given (answer c)
 in_entry (Err e) answer = no_more

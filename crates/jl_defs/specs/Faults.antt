@@ -1,5 +1,6 @@
--- All faults of a document, with their places. A fault belongs to an object's contexts, to a key (judged by this key
--- and earlier ones), to a value (judged by how it begins or by its parts), or to the end of an object.
+-- All faults of a document, with their codes (JSON-LD 1.1 API, section 9.6) and their places (this project's own rules). A fault
+-- belongs to an object's contexts, to a key (judged by this key and earlier ones), to a value (judged by how it begins or by its
+-- parts), or to the end of an object.
 use Rattle.std.specs.Prelude.{ℕ, Bool, true, false, ◌&&◌, ◌||◌, ◌≡◌, List, [], ◌∷◌, ◌++◌, Option, Some, None, Result, Ok, Err}
 use Rattle.std.specs.List.{list_all}
 use Rattle.jl_model.specs.JsonTree.{Tree, scalar, array, object, Trees, no_item, item, Members, no_member, member}
@@ -29,6 +30,7 @@ abbrev pub valued_fault : ℕ → Valued → List Fault
 valued_fault at (refused c) = fault c at ∷ []
 valued_fault at v = []
 
+-- a scalar in the context of its property, or the fault of that
 abbrev pub scalar_in : Text → ℕ → Scalar → Result Context Code → List Fault
 scalar_in name at v (Ok c) = valued_fault at (value_of c name v)
 scalar_in name at v (Err e) = fault e at ∷ []
@@ -39,7 +41,7 @@ scalar_faults s c under at Null = []
 scalar_faults s c (property_of name) at v = scalar_in name at v (property_context s c (property_of name) c)
 scalar_faults s c under at v = []
 
--- where an object's contexts fail, nothing else of the object counts
+-- where an object's contexts fail, nothing from inside it counts
 abbrev pub decided_faults : Result Inside Fault → (Inside → List Fault) → List Fault
 decided_faults (Ok i) answer = answer i
 decided_faults (Err f) answer = f ∷ []
@@ -132,7 +134,7 @@ abbrev pub if_set : Bool → (Unit {0} → List Fault) → List Fault → List F
 if_set true fs rest = fs tt ++ rest
 if_set false fs rest = rest
 
--- what stands under `@included` without being a node, judged before anything is dropped
+-- what stands under `@included` without being a node, judged before anything is dropped (this project's own rule)
 unfoldable mutual
   pub judged : Settings → Context → Tree → List Fault
   judged s c (scalar at v) = included_fault at
@@ -149,21 +151,22 @@ unfoldable mutual
   judged_in_set s i no_member = []
   judged_in_set s i (member a n v rest) = if_set (is_set (key_of i.final n)) (λ _. judged s i.final v) (judged_in_set s i rest)
 
--- what has been seen behind a member
 abbrev pub see_kind : Bool → Tree → List Tree → List Tree
 see_kind true v ks = ks ++ v ∷ []
 see_kind false v ks = ks
 
+-- what has been seen after a member
 abbrev pub see : Settings → Inside → Role → Under → Seen → ℕ → Text → Tree → Seen
 see s i role under seen at name v = record {
   entries = seen.entries ++ entries s i role under (member at name v no_member);
   kinds = see_kind (is_kind (key_of i.final name)) v seen.kinds;
 }
 
--- under `@nest` the members are the object's own
+-- inside `@nest`, the member for it has put its entry
 abbrev pub see_nest : Seen → Seen
 see_nest seen = record seen { entries = seen.entries ++ nest ∷ [] }
 
+-- under `@nest` the members are the object's own
 abbrev pub see_nested : Settings → Inside → Under → Seen → Members → Seen
 see_nested s i under seen ms = record seen { entries = seen.entries ++ entries s i nested_member under ms }
 
@@ -198,7 +201,7 @@ unfoldable mutual
   items_faults s c under stand no_item = []
   items_faults s c under stand (item x rest) = value_faults s c under stand x ++ items_faults s c under stand rest
 
-  -- the faults of members, behind those that were seen
+  -- the faults of members, after those that were seen
   pub members_faults : Settings → Inside → Place → Seen → Members → List Fault
   members_faults s i p seen no_member = []
   members_faults s i p seen (member a n v rest) =

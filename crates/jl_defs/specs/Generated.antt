@@ -1,4 +1,4 @@
--- The generated document of a number of nodes.
+-- The generated document of a number of nodes (this project's own rules).
 use Rattle.std.specs.Prelude.{ℕ, zero, suc, ◌+◌, ◌*◌, ◌%◌, List, [], ◌∷◌, ◌++◌, codes, decimal, flat_map}
 use Rattle.jl_defs.specs.Texts.{Text}
 

@@ -1,6 +1,7 @@
--- Pure graphs and graph objects (JSON-LD 1.1, section 9.4; API, section 5.1.2, step 18): objects whose `@graph`
--- is used as it is. In the order any all entries of the object tell. In streaming order its rest tells (this
--- project's own rule).
+-- What an object is by its entries. Two kinds are used for the content of their `@graph`: the graph object, which in a graph map
+-- isn't wrapped once more (JSON-LD 1.1, section 9.4; API, section 5.1.2, step 13.8.3.7.1), and the pure graph, a document that is
+-- one map with `@graph` alone (API, the method `expand`). In the order any all entries of the object tell, as in the standard.
+-- In streaming order its rest tells (this project's own rule).
 use Rattle.std.specs.Prelude.{if◌then◌else◌, ℕ, Bool, true, false, not, ◌&&◌, ◌||◌, List, [], ◌∷◌, ◌++◌}
 use Rattle.jl_model.specs.JsonTree.{Members}
 use Rattle.jl_model.specs.declared.orders.Order.{Order}
@@ -18,15 +19,17 @@ abbrev pub without_names : List Key → List Key
 without_names [] = []
 without_names (k ∷ ks) = elim (is_id k || is_index k) [ true ↦ without_names ks | false ↦ k ∷ without_names ks ]
 
--- entries from the first on that isn't the index
+-- the entries from the first one on that isn't the index
 abbrev pub after_indexes : List Key → List Key
 after_indexes [] = []
 after_indexes (k ∷ ks) = elim (is_index k) [ true ↦ after_indexes ks | false ↦ k ∷ ks ]
 
+-- the first entry is `@graph`
 abbrev pub begins_graph : List Key → Bool
 begins_graph [] = false
 begins_graph (k ∷ ks) = is_graph k
 
+-- the one entry is `@graph`
 abbrev pub is_graph_alone : List Key → Bool
 is_graph_alone (graph ∷ []) = true
 is_graph_alone ks = false
@@ -39,15 +42,15 @@ is_graph_by_all graph_entry ks = is_graph_alone (without_names ks)
 is_graph_by_all entry ks = false
 is_graph_by_all elsewhere ks = false
 
--- in streaming order: the first entry of the rest is `@graph`, but for `@index` in an item of a graph map; before the
--- rest the document has no entry, and an item at most `@id` and `@index`
+-- in streaming order (own): the first entry of the rest is `@graph`, in an item of a graph map perhaps after `@index`; before the
+-- rest the document has no entry, and an item at most `@id` and `@index`, so a key there that means `@graph` decides nothing
 abbrev pub is_graph_by_rest : Stand → List Key → List Key → Bool
 is_graph_by_rest root before rest = not (has_any before) && begins_graph rest
 is_graph_by_rest graph_entry before rest = not (has_any (without_names before)) && begins_graph (after_indexes rest)
 is_graph_by_rest entry before rest = false
 is_graph_by_rest elsewhere before rest = false
 
--- whether an object is a pure graph or a graph object, by its closed members and the entries of an open one
+-- whether an object is a pure graph or a graph object, by its closed members and the entry of an open one
 abbrev pub is_graph_with : Settings → Context → Under → Stand → ℕ → Inside → Members → List Key → Bool
 is_graph_with s c under stand at i ms opened = by s.order
   where
@@ -58,6 +61,7 @@ is_graph_with s c under stand at i ms opened = by s.order
         (entries s i own_member under (before_rest s c under stand at i ms))
         (entries s i own_member under (rest_of s c under stand at i ms) ++ opened)
 
+-- the same of an object that has closed
 abbrev pub reads_as_graph : Settings → Context → Under → Stand → ℕ → Inside → Members → Bool
 reads_as_graph s c under stand at i ms = is_graph_with s c under stand at i ms []
 
@@ -66,7 +70,7 @@ pub data Shape : Type 0 where
   value_object : Shape
   list_object : Shape
   set_object : Shape
-  -- `@language` alone gives nothing
+  -- `@language` alone, which gives nothing (step 18)
   language_alone : Shape
   -- a pure graph or a graph object
   graph_alone : Shape

@@ -20,7 +20,8 @@ pub data Role : Type 0 where
   nested_member : Role
   reversed_member : Role
 
--- the fault of a key under `@nest`: of the keywords only some may stand there
+-- the fault of a key under `@nest`: of the keywords only some may stand there (for others than `@value` this project's own
+-- rule)
 abbrev pub nest_refusal : Key → Option Code
 nest_refusal kind = None
 nest_refusal nest = None
@@ -33,7 +34,7 @@ nest_refusal (property name) = None
 nest_refusal value = Some code.InvalidNestValue
 nest_refusal k = Some code.NestedKeyword
 
--- the fault of a key under `@reverse`: no keyword but `@context` may stand there
+-- the fault of a key under `@reverse`: no keyword but `@context` may stand there (step 13.4.1)
 abbrev pub reverse_refusal : Key → Option Code
 reverse_refusal its_context = None
 reverse_refusal dropped = None
@@ -49,7 +50,7 @@ refusal reversed_member k = reverse_refusal k
 abbrev pub is_admitted : Role → Key → Bool
 is_admitted role k = is_none (refusal role k)
 
--- how the values of a property are treated: the cases of a property in their order
+-- how the values of a property are treated: the cases of a property in their order (steps 13.6 to 13.9)
 pub data Form : Type 0 where
   json_form : Form
   language_form : Form
@@ -92,12 +93,12 @@ abbrev pub is_only_language : List Key → Bool
 is_only_language (language ∷ []) = true
 is_only_language ks = false
 
--- a scalar under a property gives something, unless it is null
+-- a scalar gives something, unless it is null or dropped
 abbrev pub scalar_gives : Under → Scalar → Bool
 scalar_gives under Null = false
 scalar_gives under v = not (drops under)
 
--- a value object gives something, unless it is dropped or its value is null
+-- a value object gives something, unless it is dropped, or its value is null and no JSON literal
 abbrev pub value_gives : Under → Inside → Members → Bool
 value_gives under i ms = not (drops under) && (is_json_type (value_type i ms) || not (is_null (first_with is_value i.final ms)))
 
@@ -115,7 +116,7 @@ decided_bool (Ok i) answer = answer i
 decided_bool (Err e) answer = false
 
 -- whether a property is kept for its object; one whose contexts are at fault counts as kept, so that the object round
--- it is closed on its members
+-- it is closed on its members (this project's own rule)
 abbrev pub decided_keeps : Result Inside Fault → (Inside → Bool) → Bool
 decided_keeps (Ok i) answer = answer i
 decided_keeps (Err e) answer = true
@@ -136,7 +137,8 @@ abbrev pub if_key : Bool → List Key → List Key
 if_key true ks = ks
 if_key false ks = []
 
--- the entries that a member puts: whether its value is kept is asked where it matters
+-- the entries that a member puts: whether its value is kept is asked where it matters. That `@nest` puts one, empty or
+-- not, is this project's own rule
 abbrev pub entries_by : Key → Under → (Unit {0} → Bool) → (Unit {0} → List Key) → (Unit {0} → Bool) → List Key
 entries_by its_context under keeps nested reverses = []
 entries_by dropped under keeps nested reverses = []
@@ -161,7 +163,7 @@ unfoldable mutual
   keeps s c under stand (array at xs) = true
   keeps s c under stand (object at ms) = decided_keeps (decide s c under stand at ms) (λ i. object_gives under i ms (entries s i own_member under ms))
 
-  -- the keys of the members that put an entry, in their order; those under `@nest` stand behind it
+  -- the keys of the members that put an entry, in their order; those under `@nest` come after it
   pub entries : Settings → Inside → Role → Under → Members → List Key
   entries s i role under no_member = []
   entries s i role under (member a n v rest) =

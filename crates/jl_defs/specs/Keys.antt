@@ -94,7 +94,7 @@ abbrev pub is_reverse : Key → Bool
 is_reverse reverse = true
 is_reverse k = false
 
--- the keywords with which an object may begin in streaming order
+-- the keywords with which an object may begin in streaming order (this project's own rule)
 abbrev pub is_leading : Key → Bool
 is_leading id = true
 is_leading kind = true

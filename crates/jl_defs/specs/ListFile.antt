@@ -1,4 +1,4 @@
--- The list file of handed-in contexts, and the library that it names.
+-- The list file of handed-in contexts, and the library that it names (this project's own rules).
 use Rattle.std.specs.Prelude.{ℕ, ◌+◌, ◌≡◌, Bool, true, false, not, ◌&&◌, ◌==◌, List, [], ◌∷◌, length, Option, Some, None, Result, Ok, Err}
 use Rattle.std.specs.List.{slice_split}
 use Rattle.std.specs.Str.{is_utf8}
@@ -33,7 +33,7 @@ abbrev pub then_listed : Listed → Result (List Listed) ℕ → Result (List Li
 then_listed l (Ok ls) = Ok (l ∷ ls)
 then_listed l (Err at) = Err at
 
--- the lines from a place on, behind these names; empty lines are skipped
+-- the lines from a place on, after these names; empty lines are skipped
 unfoldable pub list_lines : List Text → ℕ → List Text → Result (List Listed) ℕ
 list_lines names at [] = Ok []
 list_lines names at ([] ∷ lines) = list_lines names (at + 1) lines

@@ -38,7 +38,8 @@ map_kind_of t =
     else (if t.containers.id then Some (id_kind t.containers.graph)
     else (if t.containers.kind then Some map_kind.Kind else None)))
 
--- a value or list in an id or type map, and a value under a property-valued index
+-- an item that may not stand in a map: a value or list in an id or type map (this project's own rule), and a value under a
+-- property-valued index
 abbrev pub check_item : MapKind → ItemKind → Result (Unit {0}) Code
 check_item map_kind.Id item_kind.ValueObject = Err code.MapItem
 check_item map_kind.Id item_kind.ListObject = Err code.MapItem
@@ -47,7 +48,7 @@ check_item map_kind.Kind item_kind.ListObject = Err code.MapItem
 check_item map_kind.PropertyIndex item_kind.ValueObject = Err code.InvalidValueObject
 check_item m x = Ok tt
 
--- a key that means `@none` adds nothing
+-- the key means `@none`: such a key adds nothing
 abbrev pub is_none_key : Context → Text → Bool
 is_none_key d name = by (expand_iri d name true false)
   where
@@ -115,7 +116,7 @@ abbrev pub all_with_addition : Addition → Items → Items
 all_with_addition a no_more = no_more
 all_with_addition a (more x xs) = more (with_addition a x) (all_with_addition a xs)
 
--- the values of a map's entries
+-- where the values of a map's entries stand
 abbrev pub entry_stand : TermDef → Stand
 entry_stand t = elim t.containers.graph [ true ↦ graph_entry | false ↦ entry ]
 

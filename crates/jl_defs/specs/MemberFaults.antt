@@ -1,4 +1,5 @@
--- What is wrong with a member by its key, or by the first bytes of its value (JSON-LD 1.1 API, section 5.1.2, step 13).
+-- What is wrong with a member by its key and the form of its value, and with an object as it closes (JSON-LD 1.1 API, section
+-- 5.1.2, steps 13, 15 and 17).
 use Rattle.std.specs.Prelude.{ℕ, Bool, true, false, not, ◌&&◌, ◌||◌, List, [], ◌∷◌, ◌++◌, Option, Some, None, Result, Ok, Err, codes, bytes_eq}
 use Rattle.std.specs.List.{list_any, list_all}
 use Rattle.jl_model.specs.JsonTree.{Tree, scalar, array, object, Trees, no_item, item, Members, no_member, member}
@@ -31,7 +32,7 @@ pub record Seen : Type 0 where
 abbrev pub nothing_seen : Seen
 nothing_seen = record { entries = []; kinds = [] }
 
--- a second entry of a keyword that may come once
+-- a second entry of a keyword that may come once (step 13.4.2), judged by the entries before it
 abbrev pub collides : Key → Under → List Key → Bool
 collides id under ks = any_key is_id ks
 collides value under ks = any_key is_value ks
@@ -84,8 +85,8 @@ nest_faults (scalar at v) = fault code.InvalidNestValue at ∷ []
 nest_faults (array at xs) = []
 nest_faults (object at ms) = []
 
--- a JSON value may stand under `@value` where both the input type and the one type are `@json`;
--- in streaming order the types are those before it
+-- an array or an object may stand under `@value` where both the input type and the one type are `@json`;
+-- in streaming order the types are those before it (this project's own rule)
 abbrev pub takes_json : Order → Inside → Seen → List Tree → Bool
 takes_json order i seen kinds = is_json i.input && is_json_type (type_of_values i.base (by order))
   where
@@ -179,7 +180,8 @@ abbrev pub has_iri : Option Text → Bool
 has_iri None = false
 has_iri (Some text) = true
 
--- a number at fault, judged as the object closes: not where it is dropped, nor where the input type is `@json`
+-- a number at fault, judged as the object closes (this project's own rule): not where it is dropped, nor where the input type is
+-- `@json`
 abbrev pub closing_number : Under → Inside → Valued → Option Tree → List Fault
 closing_number under i (refused c) (Some v) = if_so (not (drops under) && not (is_json i.input)) (fault c (place_of v) ∷ [])
 closing_number under i v t = []

@@ -9,7 +9,7 @@ use Rattle.jl_model.specs.declared.graph_scopes.GraphScope.TheVariants.{LeftOut,
 use Rattle.jl_defs.specs.Texts.{Text, is_iri, is_blank}
 use Rattle.jl_defs.specs.Items.{Naming, named, by_object, by_graph, Item, value_at, list_at, node_at, Items, no_more, more, NodeEntries, nothing_said, typed, said, holding, including}
 
--- labels made from a place: of a node, of a list's cell, of a graph
+-- labels made from a place: of a node, of a list's cell, of a graph (this project's own rule)
 abbrev pub node_label : ℕ → Text
 node_label at = codes "jlb" ++ decimal at
 
@@ -52,7 +52,7 @@ pub record Entry : Type 0 where
 abbrev pub entry : GraphScope → Option Term → Bool → Text → Item → Entry
 entry scope subject forward property x = record { scope = scope; subject = subject; forward = forward; property = property; item = x }
 
--- the set of a property's items
+-- an entry for each of a property's items
 abbrev pub items_entries : GraphScope → Option Term → Bool → Text → Items → List Entry
 items_entries scope subject forward property no_more = []
 items_entries scope subject forward property (more x xs) = entry scope subject forward property x ∷ items_entries scope subject forward property xs

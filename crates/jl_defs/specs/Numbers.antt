@@ -41,7 +41,7 @@ whole_number most token =
       | false ↦ Err code.NumberNotWhole
     ]
 
--- the sizes below 10^21
+-- the sizes below 10^21 (that larger ones are at fault, as fractions and exponents are, is this project's own rule)
 abbrev pub largest_integer : ℕ
 largest_integer = 999999999999999999999
 

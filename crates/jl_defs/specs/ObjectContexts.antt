@@ -30,7 +30,7 @@ abbrev pub and_then : {A B : Type 0} → Result A Fault → (A → Result B Faul
 and_then (Ok x) f = f x
 and_then (Err e) f = Err e
 
--- a scoped context, applied with its base URL, an empty chain and the flags may override and propagate
+-- a scoped context, applied with its base URL, an empty chain, and the two flags whether it may override and whether it propagates
 abbrev pub apply_scoped : Settings → Bool → Bool → Option Scoped → Context → Result Context Code
 apply_scoped s may_override propagate None c = Ok c
 apply_scoped s may_override propagate (Some x) c =
@@ -48,10 +48,12 @@ pub record Own : Type 0 where
 abbrev pub is_context_name : Text → Bool
 is_context_name name = bytes_eq name (codes "@context")
 
+-- the `@context` that stands first
 abbrev pub first_context : Members → Option Own
 first_context no_member = None
 first_context (member a n v rest) = elim (is_context_name n) [ true ↦ Some (record { at = a; local = v }) | false ↦ None ]
 
+-- the `@context`, wherever it stands
 abbrev pub any_context : Members → Option Own
 any_context no_member = None
 any_context (member a n v rest) = elim (is_context_name n) [ true ↦ Some (record { at = a; local = v }) | false ↦ any_context rest ]
@@ -115,11 +117,12 @@ abbrev pub gone_back : Option Context → Context → Context
 gone_back None c = c
 gone_back (Some p) c = p
 
+-- what an object's contexts begin with: the context before, where it goes back, or the context itself
 abbrev pub starting : Context → Bool → Context
 starting c true = gone_back (previous c) c
 starting c false = c
 
--- members in the order of their names, texts in their own
+-- a member put among members that stand in the order of their names; below, texts in their own order
 abbrev pub put_look : Look → List Look → List Look
 put_look x [] = x ∷ []
 put_look x (y ∷ ys) = elim (is_before y.name x.name) [ true ↦ y ∷ put_look x ys | false ↦ x ∷ (y ∷ ys) ]
@@ -188,7 +191,7 @@ decide_by s c under stand at own looks =
     (λ b. and_then (at_place at (final_context s b (type_texts (type_keys b looks)) b))
     (λ d. Ok (inside_with c stand b looks d)))
 
--- a context that may be that of the object, where its processing has no fault
+-- Streaming order (this project's own rules): first a context that may be that of the object, where its processing has no fault.
 abbrev pub candidate : Result Context Fault → List Context → List Context
 candidate (Ok c) others = c ∷ others
 candidate (Err e) others = others
@@ -211,11 +214,12 @@ is_in_prelude cs name (scalar at v) = list_any (leads_in name) cs
 is_in_prelude cs name (array at xs) = list_any (types_in name) cs
 is_in_prelude cs name (object at ms) = false
 
--- what the prelude shows: its members, and of the member behind it the key
+-- what the prelude shows: its members, and of the member after it the key
 abbrev pub prelude_looks : List Context → Members → List Look
 prelude_looks cs no_member = []
 prelude_looks cs (member a n v rest) = elim (is_in_prelude cs n v) [ true ↦ look_at n v ∷ prelude_looks cs rest | false ↦ look_at_key n ∷ [] ]
 
+-- the members from the one on that ends the prelude
 abbrev pub after_prelude : List Context → Members → Members
 after_prelude cs no_member = no_member
 after_prelude cs (member a n v rest) = elim (is_in_prelude cs n v) [ true ↦ after_prelude cs rest | false ↦ member a n v rest ]

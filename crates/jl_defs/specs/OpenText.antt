@@ -29,16 +29,16 @@ abbrev pub IsNotEmpty : List ℕ → Type 0
 IsNotEmpty [] = ⊥
 IsNotEmpty (c ∷ cs) = Unit {0}
 
--- a string and a word are closed with their last byte, a number only with the byte behind it
+-- a string and a word are closed with their last byte, a number only with the byte after it
 abbrev pub IsClosedBy : Tree → List ℕ → Type 0
 IsClosedBy (scalar at (scalars.Number digits)) text = IsNotEmpty text
 IsClosedBy v text = Unit {0}
 
--- what stands behind a closed value
+-- what stands after a closed value
 abbrev pub Behind : Tree → Language → Language
 Behind v L at tokens text = IsClosedBy v text × L at tokens text
 
--- the place behind a member's value
+-- the place after a member's value
 abbrev pub EndsAt : ℕ → Language → Language
 EndsAt end L at tokens text = (end ≡ at) × L at tokens text
 
@@ -86,7 +86,7 @@ abbrev mutual
   MoreItemsThen once room (item v vs) Bare L =
       Then Blanks (Then Comma (Then Blanks (Then (ValueText once room v) (Behind v (MoreItemsThen once room vs Bare L)))))
 
--- closed members with the places behind them, and then the next one, in an object with these names
+-- closed members with the places after them, and then the next one, in an object with these names
 abbrev mutual
   pub MembersThen : Bool → ℕ → List (List ℕ) → Members → List ℕ → Type 0 → (List (List ℕ) → Language) → Language
   MembersThen once room had no_member [] Bare L = L had

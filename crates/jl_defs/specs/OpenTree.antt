@@ -20,7 +20,7 @@ pub data Open : Type 0 where
   in_scalar : (at : ℕ) → (first : First) → Open
   -- an array: its closed items, and what has been read of the next
   in_array : (at : ℕ) → (closed : Trees) → (next : Open) → Open
-  -- an object between two members: the closed ones, and the places behind them
+  -- an object between two members: the closed ones, and the places after them
   in_object : (at : ℕ) → (closed : Members) → (ends : List ℕ) → Open
   -- an object while a key is being read
   in_key : (at : ℕ) → (closed : Members) → (ends : List ℕ) → (key_at : ℕ) → Open
@@ -42,7 +42,7 @@ first_byte (whole (scalar at v)) = Some sign
 first_byte (whole (array at xs)) = Some bracket
 first_byte (whole (object at ms)) = Some brace
 
--- a value that has the open one's first byte
+-- a value in the open one's place, as far as its first byte tells: a scalar, an array or an object
 abbrev pub stand_in : Open → Tree
 stand_in o = by (first_byte o)
   where
@@ -67,7 +67,7 @@ IsUnread (in_key at ms ends a) = ⊥
 IsUnread (in_member at ms ends a n next) = ⊥
 IsUnread (whole t) = ⊥
 
--- behind the closed items there is one like this, or nothing of it has been read
+-- after the closed items there is one like this, or nothing of it has been read
 abbrev pub NextItem : Open → (Tree → Type 0) → Trees → Type 0
 NextItem o E no_item = IsUnread o
 NextItem o E (item x rest) = E x

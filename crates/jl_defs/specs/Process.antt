@@ -57,12 +57,12 @@ check_version None = Ok tt
 check_version (Some (scalar at (Number text))) = require (bytes_eq text (codes "1.1")) code.InvalidVersionValue
 check_version (Some t) = Err code.InvalidVersionValue
 
--- the name of a context, resolved against the base URL (steps 5.2.1 and 5.6.3)
+-- the name of a context, resolved against the base URL (steps 5.2.1 and 5.6.3); without one it has to be an IRI
 abbrev pub address : Option Text → Text → Result Text Code
 address (Some url) name = Ok (resolve url name)
 address None name = elim (is_iri name) [ true ↦ Ok name | false ↦ Err code.LoadingDocumentFailed ]
 
--- the `@context` of a file that is handed in (steps 5.2.5 and 5.2.6)
+-- the `@context` of a file that is handed in (step 5.2.5.3)
 abbrev pub context_in : Tree → Result Tree Code
 context_in (object at ms) = of_member (member_named (codes "@context") ms)
   where
@@ -72,11 +72,12 @@ context_in (object at ms) = of_member (member_named (codes "@context") ms)
 context_in (scalar at v) = Err code.InvalidRemoteContext
 context_in (array at xs) = Err code.InvalidRemoteContext
 
+-- a file that isn't readable can't be loaded (step 5.2.5.2)
 abbrev pub loaded : Option Tree → Result Tree Code
 loaded None = Err code.LoadingRemoteContextFailed
 loaded (Some t) = context_in t
 
--- the entries of a map with those of another one put in: these win, a shared name keeps its place, new ones follow
+-- an entry of theirs, or ours where we have one of its name
 abbrev pub ours_or : List Entry → Entry → Entry
 ours_or ours e = by (find_entry ours e.name)
   where
@@ -84,9 +85,11 @@ ours_or ours e = by (find_entry ours e.name)
     by None = e
     by (Some o) = o
 
+-- an entry whose name theirs haven't
 abbrev pub is_new : List Entry → Entry → Bool
 is_new theirs e = not (has_entry theirs e.name)
 
+-- the entries of a file's map with ours put in (step 5.6.8): ours win, a shared name keeps its place, new ones follow
 abbrev pub merged : List Entry → List Entry → List Entry
 merged theirs ours = map (ours_or ours) theirs ++ filter (is_new theirs) ours
 
@@ -95,11 +98,12 @@ pub record Imported : Type 0 where
   pub entries : List Entry
   pub chain : List Text
 
--- a chain has at most 32 names
+-- a chain has at most 32 names (step 5.2.3; the limit is this project's own)
 abbrev pub is_full : List Text → Bool
 is_full chain = nat_le 32 (length chain)
 
--- `@import` (step 5.6): the file's map, with this one put in; it has no `@import` of its own
+-- `@import` (step 5.6): the file's map, with this one put in; it has no `@import` of its own. That the name joins the chain for the
+-- terms, and that the chain may be too long for it, is this project's own rule
 abbrev pub imported : Remote → List Entry → Task → Option Tree → Result Imported Code
 imported remote es k None = Ok (record { entries = es; chain = k.chain })
 imported remote es k (Some (scalar at (Str text))) = do
@@ -110,7 +114,7 @@ imported remote es k (Some (scalar at (Str text))) = do
   Ok (record { entries = merged theirs es; chain = name ∷ k.chain })
 imported remote es k (Some t) = Err code.InvalidImportValue
 
--- a base that is no IRI is resolved against the one before it
+-- a base that is no IRI is resolved against the one before it; that this gives an IRI is asked by this project alone
 abbrev pub base_text : Context → Text → Result Context Code
 base_text c text =
     elim (is_iri text) [
@@ -130,6 +134,7 @@ base_entry c [] (Some (scalar at Null)) = Ok (with_base c None)
 base_entry c [] (Some (scalar at (Str text))) = base_text c text
 base_entry c [] (Some t) = Err code.InvalidBaseIri
 
+-- a vocabulary is an IRI or a blank node
 abbrev pub vocab_of : Context → Expanded → Result Context Code
 vocab_of c expanded.Null = Err code.InvalidVocabMapping
 vocab_of c (expanded.Keyword text) = Err code.InvalidVocabMapping
@@ -163,6 +168,7 @@ context_keywords =
 abbrev pub is_term_entry : Entry → Bool
 is_term_entry e = not (is_among context_keywords e.name)
 
+-- what the terms of a map are defined with
 abbrev pub local_map : Imported → Task → Option Bool → LocalMap
 local_map i k protects = record { entries = i.entries; url = k.url; chain = i.chain; may_override = k.may_override; protects = unwrap_or protects false }
 
@@ -188,7 +194,7 @@ map_change remote es k = do
 abbrev pub is_protected : Named → Bool
 is_protected e = e.term.protected
 
--- null (step 5.1): the initial context, where nothing is protected
+-- null (step 5.1): the initial context, where no term is protected or protected ones may be overridden
 abbrev pub null_change : Option Text → Change
 null_change origin k =
     require (k.may_override || not (list_any is_protected k.active.level.terms)) code.InvalidContextNullification
@@ -210,13 +216,15 @@ abbrev pub keeping : Bool → Context → Context
 keeping true c = c
 keeping false c = elim (is_none (previous c)) [ true ↦ with_previous c c | false ↦ c ]
 
+-- what a local context begins with
 abbrev pub begin : Tree → Task → Task
 begin t k = record k { active = keeping (propagates t k.propagate) k.active; propagate = propagates t k.propagate }
 
--- the members of one item are done for the next
+-- one change, and another of the context that it gives
 abbrev pub then_change : Change → Change → Change
 then_change first second k = first k >>= (λ c. second (record k { active = c }))
 
+-- the value of `@context`, or what a later member gives
 abbrev pub if_context : Text → Change → Option Change → Option Change
 if_context name here rest = elim (bytes_eq name (codes "@context")) [ true ↦ Some here | false ↦ rest ]
 
@@ -263,7 +271,7 @@ map_entries origin remote (object at ms) = Ok (entries_of origin remote ms)
 map_entries origin remote (scalar at v) = Err code.InvalidRemoteContext
 map_entries origin remote (array at xs) = Err code.InvalidRemoteContext
 
--- the task for a file: its name is the base URL and joins the chain, and it may override nothing
+-- the task for a file (step 5.2.6): its name is the base URL and joins the chain, and it may override nothing
 abbrev pub file_task : Text → Task → Task
 file_task name k = record k { url = Some name; chain = name ∷ k.chain; may_override = false; propagate = true }
 

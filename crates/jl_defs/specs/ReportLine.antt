@@ -1,4 +1,4 @@
--- The line that the program says at its end.
+-- The line that the program says at its end (this project's own rules).
 use Rattle.std.specs.Prelude.{if◌then◌else◌, ℕ, ◌==◌, Bool, true, false, [], ◌++◌, Option, Some, None, codes, decimal}
 use Rattle.jl_model.specs.Codes.{code_name}
 use Rattle.jl_model.specs.declared.codes.Code.{Code}

@@ -1,4 +1,5 @@
--- The faults that a document is known to have before its end: however it goes on, they are among its faults.
+-- The faults that a document is known to have before its end: however it goes on, they are among its faults (this project's own
+-- rules).
 use Rattle.std.specs.Prelude.{ℕ, Bool, true, false, not, ◌&&◌, ◌||◌, List, [], ◌∷◌, ◌++◌, Option, Some, None, Result, Ok, Err}
 use Rattle.jl_model.specs.JsonTree.{Trees, Members, no_member, member}
 use Rattle.jl_model.specs.declared.codes.Code.{Code}
@@ -178,7 +179,7 @@ reverse_reported s c at ms =
     members_faults s i reverse_place nothing_seen ms ++ late_read s c reverse_property elsewhere at i ms)
     ++ late_contexts s.order ms)
 
--- what has been seen behind members
+-- what has been seen after members
 unfoldable pub seen_behind : Settings → Inside → Place → Seen → Members → Seen
 seen_behind s i p seen no_member = seen
 seen_behind s i p seen (member a n v rest) = seen_behind s i p (see s i p.role p.under seen a n v) rest
@@ -267,7 +268,7 @@ member_reported i p seen a n next reading mapped nested reversed =
     ++ (first_known (key_of i.final n) (is_json i.input) a (begun_at next) (first_byte next)
     ++ open_by (key_of i.final n) i p seen n next reading mapped nested reversed))
 
--- behind closed maps of an array under `@nest`, in the nest term's context
+-- what has been seen after closed maps of an array under `@nest`, in the nest term's context
 abbrev pub see_maps : Settings → Inside → Text → Place → Seen → Trees → Seen
 see_maps s i name p seen xs =
     see_nested_in (nest_inside s i name) (λ j. record seen { entries = seen.entries ++ all_nested_entries s j p.under xs }) seen

@@ -39,7 +39,7 @@ ends_run i first name = not (is_leading (key_of i.final name)) || (not first && 
 abbrev pub ends_with : Inside → Text → Tree → Bool
 ends_with i name v = is_value (key_of i.final name) && not (is_scalar v)
 
--- the members of the second run
+-- the members of the second run; `first` says that none of them has been read yet
 abbrev pub run_of : Inside → Bool → Members → Members
 run_of i first no_member = no_member
 run_of i first (member a n v rest) =

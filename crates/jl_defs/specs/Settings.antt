@@ -13,7 +13,7 @@ pub record Settings : Type 0 where
 
 -- the property that a value is expanded under (the active property of the standard)
 pub data Under : Type 0 where
-  -- the document, and items of `@included`
+  -- of the document, and of what stands under `@included`
   no_property : Under
   graph_property : Under
   reverse_property : Under
@@ -22,9 +22,9 @@ pub data Under : Type 0 where
 -- where a value stands, beside its property
 pub data Stand : Type 0 where
   root : Stand
-  -- the value of a map's entry
+  -- the value of a map's entry, and what stands in it through arrays and sets alone
   entry : Stand
-  -- the same in a map of a container with `@graph`
+  -- the same in a map of a container that has `@graph` too: an item of a graph map
   graph_entry : Stand
   elsewhere : Stand
 
@@ -35,14 +35,15 @@ is_entry entry = true
 is_entry graph_entry = true
 is_entry elsewhere = false
 
--- items of arrays and sets stand where these do, but for the root
+-- items of arrays stand where these do, but for the root; those of sets too (this project's own rule)
 abbrev pub inside_of : Stand → Stand
 inside_of root = elsewhere
 inside_of entry = entry
 inside_of graph_entry = graph_entry
 inside_of elsewhere = elsewhere
 
--- scalars, value objects and list objects are dropped under no property and under `@graph`
+-- scalars, value objects and list objects are dropped under no property and under `@graph` (API, section 5.1.2, steps 4.1 and
+-- 19), and right under `@reverse`, where only a map may stand
 abbrev pub drops : Under → Bool
 drops no_property = true
 drops graph_property = true

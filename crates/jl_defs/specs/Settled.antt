@@ -35,12 +35,12 @@ abbrev pub is_first_context : Members → Text → Bool
 is_first_context no_member name = bytes_eq name (codes "@context")
 is_first_context (member a n v rest) name = false
 
+-- the prelude has ended, where an open member's key has been read
 abbrev pub ends_prelude : Settings → Context → Under → Stand → ℕ → Members → Text → Option First → Bool
 ends_prelude s c under stand at ms name first =
     has_ended (own_candidates s c under stand at ms) ms
     || (not (is_first_context ms name) && ends_by (own_candidates s c under stand at ms) name first)
 
--- the names of the terms that mean `@type`
 abbrev pub means_type : Named → Bool
 means_type e = by e.term.mapping
   where
@@ -51,6 +51,7 @@ means_type e = by e.term.mapping
 abbrev pub name_of : Named → Text
 name_of e = e.name
 
+-- the names of the terms that mean `@type`
 abbrev pub type_names : Context → List Text
 type_names c = map name_of (filter means_type c.level.terms)
 
@@ -71,7 +72,8 @@ is_graph_item root = false
 is_graph_item entry = false
 is_graph_item elsewhere = false
 
--- in the order any: the context, all keys for `@type` and one for `@id` have closed
+-- in the order any: the context outside has none before it, the object is no item of a graph map, and its `@context`, all keys for
+-- `@type` and one for `@id` have closed
 abbrev pub settles_any : Context → Stand → Members → Result Inside Fault → Bool
 settles_any c stand ms (Err f) = false
 settles_any c stand ms (Ok i) =

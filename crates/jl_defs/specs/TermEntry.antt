@@ -91,11 +91,12 @@ direction_entry (Some (scalar at Null)) = Ok direction.Null
 direction_entry (Some (scalar at (Str text))) = direction_text text
 direction_entry (Some t) = Err code.InvalidBaseDirection
 
--- a keyword put among containers, where it is one of theirs and isn't there
+-- the containers with one more; a keyword doesn't come twice (this project's own rule)
 abbrev pub unless_there : Bool → Containers → Option Containers
 unless_there true c = None
 unless_there false c = Some c
 
+-- a keyword put among containers, where it is one of theirs
 abbrev pub add_container : Text → Containers → Option Containers
 add_container text c =
     if bytes_eq text (codes "@list") then unless_there c.list (record c { list = true })
@@ -111,11 +112,12 @@ add_containers no_item c = Some c
 add_containers (item (scalar at (Str text)) rest) c = option_and_then (add_containers rest) (add_container text c)
 add_containers (item x rest) c = None
 
--- at most one of the four
+-- at most one of four
 abbrev pub at_most_one : Bool → Bool → Bool → Bool → Bool
 at_most_one a b c d = not ((a && (b || (c || d))) || ((b && (c || d)) || (c && d)))
 
--- `@list` alone; or some of the others, with at most one of `@index`, `@id`, `@type` and `@language`, and only the first two beside `@graph`
+-- `@list` alone; or some of the others, with at most one of `@index`, `@id`, `@type` and `@language`, and only the first two
+-- of these beside `@graph` (step 19.1, and this project's own reading of it)
 abbrev pub is_admitted : Containers → Bool
 is_admitted c =
     elim c.list [
@@ -128,7 +130,7 @@ abbrev pub admit : Option Containers → Result Containers Code
 admit None = Err code.InvalidContainerMapping
 admit (Some c) = elim (is_admitted c) [ true ↦ Ok c | false ↦ Err code.InvalidContainerMapping ]
 
--- the container mapping: one keyword, or an array of keywords without repeats
+-- the container mapping: one keyword, or an array of keywords (step 19)
 unfoldable pub containers_of : Tree → Result Containers Code
 containers_of (scalar at (Str text)) = admit (add_container text no_containers)
 containers_of (scalar at Null) = Err code.InvalidContainerMapping
@@ -141,7 +143,7 @@ abbrev pub container_entry : Option Tree → Result Containers Code
 container_entry None = Ok no_containers
 container_entry (Some t) = containers_of t
 
--- beside `@reverse` the container is `@set`, `@index` or null
+-- beside `@reverse` the container is `@set`, `@index` or null, and no array (step 13.5)
 abbrev pub reverse_container : Option Tree → Result Containers Code
 reverse_container None = Ok no_containers
 reverse_container (Some (scalar at Null)) = Ok no_containers
@@ -152,7 +154,8 @@ reverse_container (Some (scalar at (Str text))) =
     ]
 reverse_container (Some t) = Err code.InvalidReverseProperty
 
--- a reverse term: no `@id` and no `@nest` beside it
+-- a reverse term: `@reverse` is a string, and where that has keyword form the entry is ignored; of the other entries only the
+-- container is looked at (steps 13.2 to 13.7)
 abbrev pub reverse_entry : Members → Option Bool → Option Text → Tree → Result RawEntry Code
 reverse_entry ms protected kind (scalar at (Str text)) =
     elim (has_keyword_form text) [
@@ -169,18 +172,18 @@ reverse_entry ms protected kind (object at ms') = Err code.InvalidIriMapping
 abbrev pub has_member : Text → Members → Bool
 has_member name ms = is_some (member_named name ms)
 
--- an `@id` of keyword form that is neither a keyword nor the term
+-- an `@id` of keyword form that is neither a keyword nor the term (step 14.2.2)
 abbrev pub is_strange_id : Text → LangEntry → Bool
 is_strange_id term lang.Absent = false
 is_strange_id term lang.Null = false
 is_strange_id term (lang.Tag text) = has_keyword_form text && (not (is_keyword text) && not (bytes_eq text term))
 
--- a string, and only beside a container by index
+-- a string, and only beside a container by index (step 20)
 abbrev pub index_entry : Containers → Option Tree → Result (Option Text) Code
 index_entry c None = Ok None
 index_entry c (Some t) = require c.index code.InvalidTermDefinition >>= (λ _. string_entry code.InvalidTermDefinition (Some t))
 
--- only without `@type`
+-- with `@type` neither `@language` nor `@direction` is looked at (steps 22 and 23)
 abbrev pub language_entry : Option Text → Option Tree → Result LangEntry Code
 language_entry None t = nullable_entry code.InvalidLanguageMapping t
 language_entry (Some kind) t = Ok lang.Absent
@@ -189,7 +192,7 @@ abbrev pub own_direction : Option Text → Option Tree → Result DirEntry Code
 own_direction None t = direction_entry t
 own_direction (Some kind) t = Ok direction.Absent
 
--- a string that is no keyword but `@nest`
+-- a string that is no keyword but `@nest` (step 24)
 abbrev pub is_nest_text : Option Text → Bool
 is_nest_text None = true
 is_nest_text (Some text) = not (is_keyword text) || bytes_eq text (codes "@nest")
@@ -200,11 +203,12 @@ nest_entry t = string_entry code.InvalidNestValue t >>= (λ text. require (is_ne
 abbrev pub has_colon_or_slash : Text → Bool
 has_colon_or_slash text = list_any is_colon text || list_any is_slash text
 
+-- a truth value, on a term without colon and slash (step 25)
 abbrev pub prefix_entry : Text → Option Tree → Result (Option Bool) Code
 prefix_entry term None = Ok None
 prefix_entry term (Some t) = require (not (has_colon_or_slash term)) code.InvalidTermDefinition >>= (λ _. boolean_entry code.InvalidPrefixValue (Some t))
 
--- the entries that a definition may have
+-- the entries that a definition may have (step 26)
 abbrev pub entry_names : List Text
 entry_names =
     codes "@id" ∷ codes "@reverse" ∷ codes "@container" ∷ codes "@context" ∷ codes "@direction" ∷ codes "@index"
@@ -245,6 +249,7 @@ forward_entry term simple ms protected kind = do
       })
   ]
 
+-- with `@reverse` a definition has neither `@id` nor `@nest` (step 13.1)
 abbrev pub by_reverse : Text → Bool → Members → Option Bool → Option Text → Option Tree → Result RawEntry Code
 by_reverse term simple ms protected kind None = forward_entry term simple ms protected kind
 by_reverse term simple ms protected kind (Some t) =
@@ -258,7 +263,7 @@ map_entry term simple ms = do
   kind ← string_entry code.InvalidTypeMapping (member_named (codes "@type") ms)
   by_reverse term simple ms protected kind (member_named (codes "@reverse") ms)
 
--- null stands for a map with `@id` null, and a string for one with that `@id`
+-- null stands for a map with `@id` null, and a string for one with that `@id` (steps 7 to 9)
 abbrev pub value_entry : Text → Tree → Result RawEntry Code
 value_entry term (scalar at Null) = map_entry term false (member at (codes "@id") (scalar at Null) no_member)
 value_entry term (scalar at (Str text)) = map_entry term true (member at (codes "@id") (scalar at (Str text)) no_member)
@@ -267,14 +272,14 @@ value_entry term (scalar at (Number text)) = Err code.InvalidTermDefinition
 value_entry term (array at xs) = Err code.InvalidTermDefinition
 value_entry term (object at ms) = map_entry term false ms
 
--- the container of the term `@type`: `@set`, or an array of it alone
+-- the container of the term `@type`, if it has one: `@set`, or an array of it alone (this project's own rule)
 abbrev pub is_set_container : Option Tree → Bool
 is_set_container None = true
 is_set_container (Some (scalar at (Str text))) = bytes_eq text (codes "@set")
 is_set_container (Some (array at (item (scalar at' (Str text)) no_item))) = bytes_eq text (codes "@set")
 is_set_container (Some t) = false
 
--- the term `@type` may have a container and be protected, and nothing else
+-- the term `@type` may have a container and be protected, and nothing else (step 4)
 abbrev pub is_type_entry : Tree → Bool
 is_type_entry (scalar at v) = false
 is_type_entry (array at xs) = false
@@ -283,11 +288,12 @@ is_type_entry (object at (member a n v rest)) =
     names_are_among (codes "@container" ∷ codes "@protected" ∷ []) (member a n v rest)
     && is_set_container (member_named (codes "@container") (member a n v rest))
 
+-- a keyword is no term, but for `@type` (steps 4 and 5)
 abbrev pub keyword_entry : Text → Tree → Result RawEntry Code
 keyword_entry term value =
     elim (bytes_eq term (codes "@type") && is_type_entry value) [ true ↦ value_entry term value | false ↦ Err code.KeywordRedefinition ]
 
--- the checks of an entry, in their order: the code of the first that fails
+-- the checks of an entry, and the code of the first that fails (their order is this project's own)
 unfoldable pub read_entry : Text → Tree → Result RawEntry Code
 read_entry [] value = Err code.InvalidTermDefinition
 read_entry (c ∷ cs) value =

@@ -34,7 +34,7 @@ strings_of (item x rest) = if_some (string_of x) (strings_of rest)
     if_some None texts = texts
     if_some (Some text) texts = text ∷ texts
 
--- the texts of the names, strings and numbers in it
+-- the bytes of the names, strings and numbers in it
 abbrev mutual
   pub texts_size : Tree → ℕ
   texts_size (scalar at v) = scalar_size v

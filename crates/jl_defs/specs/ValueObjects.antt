@@ -44,6 +44,7 @@ type_of_values b [] = untyped
 type_of_values b (v ∷ []) = type_of_string b (string_of v)
 type_of_values b (v ∷ w ∷ ws) = not_one
 
+-- the type of a value object: the keys for it as the final context tells, its text as the base does
 abbrev pub value_type : Inside → Members → ValueType
 value_type i ms = type_of_values i.base (all_with is_kind i.final ms)
 
@@ -78,24 +79,25 @@ string_or_none (Some t) = string_of t
 abbrev pub json_literal : Tree → Valued
 json_literal t = plain (canon t) rdf_json
 
--- a number that is none of a JSON literal is at fault
+-- a number that has no canonical text is at fault
 abbrev pub json_number_value : Tree → Result Text Code → Valued
 json_number_value t (Ok text) = json_literal t
 json_number_value t (Err code) = refused code
 
--- the literal of a scalar, an array or an object
+-- the JSON literal of any value
 abbrev pub json_value : Tree → Valued
 json_value (scalar at (Number token)) = json_number_value (scalar at (Number token)) (json_number token)
 json_value (scalar at v) = json_literal (scalar at v)
 json_value (array at xs) = json_literal (array at xs)
 json_value (object at ms) = json_literal (object at ms)
 
--- what a value object with this value gives; one that is an array or an object gives none
+-- the literal of a value that is no JSON literal: an array or an object gives none
 abbrev pub typed_literal : ValueType → Option Text → Tree → Valued
 typed_literal t language (scalar at v) = literal_of v (type_iri t) language
 typed_literal t language (array at xs) = left_out
 typed_literal t language (object at ms) = left_out
 
+-- what a value object gives that has this type, language and value
 abbrev pub object_value : ValueType → Option Text → Tree → Valued
 object_value t language v = elim (is_json_type t) [ true ↦ json_value v | false ↦ typed_literal t language v ]
 

@@ -32,7 +32,7 @@ pub data Valued : Type 0 where
   -- the name of a node
   reference : (name : Text) → Valued
   literal : (lit : Lit) → Valued
-  -- a literal whose language tag is ill-formed
+  -- a value that is left out: its language tag is ill-formed, or it is no literal at all
   left_out : Valued
   -- a number that is at fault
   refused : (code : Code) → Valued
@@ -92,7 +92,7 @@ datatype_by None = None
 datatype_by (Some kind) =
     elim (bytes_eq kind (codes "@id") || (bytes_eq kind (codes "@vocab") || bytes_eq kind (codes "@none"))) [ true ↦ None | false ↦ Some kind ]
 
--- a text as a reference; null is the reference of the empty text
+-- a text as a reference; null is the reference of the empty text (this project's own choice)
 abbrev pub reference_to : Expanded → Valued
 reference_to expanded.Null = reference []
 reference_to (expanded.Keyword text) = reference text

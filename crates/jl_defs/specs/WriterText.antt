@@ -1,4 +1,5 @@
--- The writer's text: quads in their order, where neighbours that share graph and subject stand in one node.
+-- The writer's text: quads in their order, where neighbours that share graph and subject stand in one node (this project's own
+-- rules).
 use Rattle.std.specs.Prelude.{Bool, true, false, not, ◌&&◌, ◌||◌, nat_lt, List, [], ◌∷◌, ◌++◌, length, Option, Some, None, codes, bytes_eq}
 use Rattle.jl_model.specs.Parts.{Parts, xsd_string}
 use Rattle.jl_model.specs.declared.terms.Lit.{Lit}
@@ -64,7 +65,7 @@ item_text q = by q.graph
     by None = node_text q
     by (Some g) = codes "{\"@id\":" ++ string_text (node_name g) ++ codes ",\"@graph\":[" ++ node_text q
 
--- the end of an item behind its last node
+-- the end of an item after its last node
 abbrev pub item_end : Option Term → Text
 item_end None = []
 item_end (Some g) = codes "]}"
