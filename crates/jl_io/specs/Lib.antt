@@ -3,5 +3,6 @@ pub mod Shelves
 pub mod Memory
 pub mod MemoryForm
 pub mod Streams
+pub mod Telling
 pub mod WholeLines
 pub mod Strict

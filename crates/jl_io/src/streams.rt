@@ -1,56 +1,77 @@
-//! The standard streams of the process.
+//! A port over a reader and two writers.
 ghost use Rattle.std.proofs.Common.{rules};
-ghost use Rattle.std.specs.Prelude.{◌≡◌, None, IfOk, false};
+ghost use Rattle.std.specs.Prelude.{◌≡◌, None, Some, false};
+ghost use Rattle.jl_io.specs.Telling.{TellsAlike};
 
 use super::ports::{ByteOut, Failed, Port};
-use jl_model::NoMemory;
 use std::io::{Read, Write};
 use std::marker::Model;
-use std::rt::{Stderr, Stdin, Stdout};
 
-/// The standard streams. It tells no bytes.
+/// A port over a reader, a writer, and a writer for what is said. It tells the bytes that they tell.
 ///
 /// Each `put` is one write and each `take` one read, so nothing is held here: a failed write is told
 /// by the call that made it. A caller that puts little at a time gathers it in blocks first, and gives
 /// `take` a large buffer.
 #[derive(Drop)]
-pub struct StdPort {
-    input: Stdin,
-    output: Stdout,
-    error: Stderr,
+pub struct StreamPort<R: Read, W: Write, E: Write> {
+    input: R,
+    output: W,
+    error: E,
     ended: bool,
     take_faults: u64,
     put_faults: u64,
+    tells_said: bool,
 }
 
-impl Model for StdPort {
-    ghost use Rattle.jl_io.specs.Streams.{Streams};
+impl<R: Read, W: Write, E: Write> Model for StreamPort<R, W, E> {
+    ghost use Rattle.jl_io.specs.Streams.{Streams, told_if};
+    ghost use Rattle.jl_io.specs.Telling.{TellsAlike};
 
     ghost Value = { Streams };
 
-    ghost view = { λ p. record { ended = p.ended; take_faults = p.take_faults; put_faults = p.put_faults } };
+    ghost view = { λ p. record {
+      left = R.remaining p.input;
+      ended = p.ended;
+      take_faults = p.take_faults;
+      written = W.contents p.output;
+      put_faults = p.put_faults;
+      said = told_if p.tells_said (E.contents p.error);
+    } };
+
+    ghost invariant = { λ p. TellsAlike R.remaining × TellsAlike W.contents × TellsAlike E.contents };
 }
 
-impl StdPort {
-    /// The streams of this runtime.
-    pub fn new(rt: &HostRuntime) -> Result<StdPort, NoMemory>
-        ensures { IfOk result (λ port. port ≡ record { ended = false; take_faults = 0; put_faults = 0 }) }
+impl<R: Read, W: Write, E: Write> StreamPort<R, W, E> {
+    /// A port over these, each of which tells its bytes always or never.
+    pub fn over(input: R, output: W, error: E) -> StreamPort<R, W, E>
+        requires input { TellsAlike R.remaining }
+        requires output { TellsAlike W.contents }
+        requires error { TellsAlike E.contents }
+        ensures { result ≡ record {
+          left = R.remaining input;
+          ended = false;
+          take_faults = 0;
+          written = W.contents output;
+          put_faults = 0;
+          said = E.contents error;
+        } }
     {
-        Ok(StdPort {
-            input: rt.stdin(),
-            output: rt.stdout(),
-            error: rt.stderr(),
+        StreamPort {
+            input,
+            output,
+            error,
             ended: false,
             take_faults: 0,
             put_faults: 0,
-        })
+            tells_said: true,
+        }
     }
 }
 
-impl ByteOut for StdPort {
+impl<R: Read, W: Write, E: Write> ByteOut for StreamPort<R, W, E> {
     ghost use Rattle.jl_io.specs.Streams.{PutsOnly};
 
-    ghost written = { λ _. None };
+    ghost written = { λ port. port.written };
 
     ghost put_faults = { λ port. port.put_faults };
 
@@ -71,12 +92,12 @@ impl ByteOut for StdPort {
     ghost joins = { λ a b c h k. Prim.search rules };
 }
 
-impl Port for StdPort {
+impl<R: Read, W: Write, E: Write> Port for StreamPort<R, W, E> {
     ghost taken = { λ _. None };
 
-    ghost left = { λ _. None };
+    ghost left = { λ port. port.left };
 
-    ghost said = { λ _. None };
+    ghost said = { λ port. port.said };
 
     ghost ended = { λ port. port.ended };
 
@@ -98,7 +119,10 @@ impl Port for StdPort {
     }
 
     fn say(&mut self, bytes: &[u8]) {
-        let _ = self.error.write_all(bytes);
+        match self.error.write_all(bytes) {
+            Ok(()) => {}
+            Err(_) => self.tells_said = false,
+        }
     }
 
     ghost keeps_taken = { λ a b h. Prim.search rules };
@@ -112,18 +136,4 @@ impl Port for StdPort {
     ghost keeps_take_faults = { λ a b h. Prim.search rules };
 
     ghost keeps_may_take = { λ a b h. Prim.search rules };
-}
-
-#[cfg(test)]
-mod tests {
-    use super::*;
-    use std::test::Fail;
-
-    #[test]
-    fn puts_and_says(rt: HostRuntime) -> Result<(), Fail> {
-        let mut port = StdPort::new(&rt)?;
-        assert_eq!(rt; port.put(b"line\n").ok(), Some(5));
-        port.say(b"said\n");
-        Ok(())
-    }
 }
