@@ -3,6 +3,5 @@ pub mod Shelves
 pub mod Memory
 pub mod MemoryForm
 pub mod Streams
-pub mod Telling
 pub mod WholeLines
 pub mod Strict

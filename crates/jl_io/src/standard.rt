@@ -1,5 +1,6 @@
 //! The standard streams of the process.
-ghost use Rattle.std.specs.Prelude.{◌≡◌, None, IfOk, false};
+ghost use Rattle.std.specs.Prelude.{◌≡◌, None, IfOk};
+ghost use Rattle.jl_io.specs.Streams.{unused};
 
 use super::streams::StreamPort;
 use jl_model::NoMemory;
@@ -11,7 +12,7 @@ pub type StdPort = StreamPort<Stdin, Stdout, Stderr>;
 impl StdPort {
     /// The streams of this runtime.
     pub fn new(rt: &HostRuntime) -> Result<StdPort, NoMemory>
-        ensures { IfOk result (λ port. port ≡ record { left = None; ended = false; take_faults = 0; written = None; put_faults = 0; said = None }) }
+        ensures { IfOk result (λ port. port ≡ unused None None None) }
     {
         Ok(StreamPort::over(rt.stdin(), rt.stdout(), rt.stderr()))
     }
