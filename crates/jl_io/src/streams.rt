@@ -41,8 +41,8 @@ impl<R: Read, W: Write, E: Write> Model for StreamPort<R, W, E> {
 }
 
 impl<R: Read, W: Write, E: Write> StreamPort<R, W, E> {
-    /// A port over these. Whether one of them tells its bytes hangs on its type alone, as that of a
-    /// slice, a vector, or a stream of the process.
+    /// A port over these, each of which tells its bytes always or never: a slice and a vector do
+    /// always, a stream of the process never.
     pub fn over(input: R, output: W, error: E) -> StreamPort<R, W, E>
         requires input { TellsAlike R.remaining }
         requires output { TellsAlike W.contents }
@@ -138,7 +138,6 @@ mod tests {
     use std::alloc::Global;
     use std::io;
     use std::io::{Error, ErrorKind};
-    use std::test::Fail;
 
     /// A port over memory, which tells all bytes.
     fn over_memory(alloc: Global, input: &[u8]) -> StreamPort<&[u8], Vec<u8>, Vec<u8>>
@@ -180,7 +179,7 @@ mod tests {
     }
 
     #[test]
-    fn goes_on_after_a_failed_read(rt: HostRuntime) {
+    fn goes_on_after_failures(rt: HostRuntime) {
         let mut room = [0u8; 4];
         let output = &mut room[..];
         let mut port = StreamPort::over(Torn { reads: 0 }, output, Vec::new(rt.alloc()));
