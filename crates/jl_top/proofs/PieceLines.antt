@@ -224,6 +224,10 @@ module _ (quads : List Parts) (w0 w1 w2 : Option (List ℕ)) (b0 b1 b2 : Block) 
 pub rose_alone : (m n r s : ℕ) → r ≡ 0 → s ≡ r → Rose (m + r) (n + s) → Rose m n
 rose_alone m n r s none same h = let rose : min ((m + r) + 1) (2 ^ 64 - 1) ≤ n + s = h in omega arith
 
+-- a count that is the same without calls that were refused
+pub same_alone : (m n r s : ℕ) → s ≡ r → n + s ≡ m + r → n ≡ m
+same_alone m n r s same h = omega (arith, same, h)
+
 -- what holds where a piece stopped the reading
 pub at_stop : (result : Result (Unit {0}) Stop) (stop : Stop) (old new : EngineState) (piece : List ℕ) (w0 w1 : Option (List ℕ)) → StopsWithLines result old new piece w0 w1 → result ≡ Err stop
     → (s : Settings) (bytes : List ℕ) (quads : List Parts) → Stands s bytes quads old → StoppedLines s bytes quads piece stop new w0 w1

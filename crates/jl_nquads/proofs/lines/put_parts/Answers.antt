@@ -1,4 +1,6 @@
+use Rattle.std.proofs.Common.{rules}
 use Rattle.std.proofs.Common.{arith}
+use Rattle.jl_model.proofs.Causing.{cause_none}
 use Rattle.jl_nquads.proofs.Outcomes.{on_err}
 use Rattle.jl_nquads.proofs.Joins.{part_put, part_cut}
 use Rattle.jl_nquads.proofs.lines.put_parts.Goals as goal
@@ -11,6 +13,9 @@ pub loop-part-preserved : goal.loop-part-preserved
 loop-part-preserved g c =
     record {
       put = part_put (g.B.ByteOut.written c.args.out.now) (g.B.ByteOut.written c.loop-part.out) (g.B.ByteOut.written c.put_all.new.out) c.args.parts.now c.loop-part.part-index _ c.loop-part-test.true c.loop-part.invariant.put c.in_ok-put_all.ensures.put;
-      later = omega (arith, c.loop-part.invariant.later, c.put_all.ensures.cause.later);
+      counted = search rules;
       beside = g.met.B.ByteOut.joins c.args.out.now c.loop-part.out c.put_all.new.out c.loop-part.invariant.beside c.put_all.ensures.beside;
     }
+
+pub returns-clause-cause : goal.returns-clause-cause
+returns-clause-cause g c = cause_none (g.B.ByteOut.put_faults c.args.out.now) (g.B.ByteOut.put_faults c.loop-part.out) _ c.loop-part.invariant.counted (λ e. cc)

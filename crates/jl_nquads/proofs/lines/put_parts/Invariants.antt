@@ -6,6 +6,6 @@ use Rattle.jl_nquads.proofs.lines.put_parts.Given as goal
 abbrev pub invariant-loop-part : goal.invariant-loop-part
 invariant-loop-part g l = record {
   put : g.B.ByteOut.written l.out ≡ appended (g.B.ByteOut.written l.initial.out) (joined (take l.part-index l.parts));
-  later : g.B.ByteOut.put_faults l.initial.out ≤ g.B.ByteOut.put_faults l.out;
+  counted : g.B.ByteOut.put_faults l.out ≡ g.B.ByteOut.put_faults l.initial.out;
   beside : g.B.ByteOut.beside l.initial.out l.out;
 }

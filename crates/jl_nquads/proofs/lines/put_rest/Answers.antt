@@ -1,5 +1,7 @@
+use Rattle.std.proofs.Common.{rules}
 use Rattle.std.proofs.Common.{arith}
 use Rattle.std.proofs.lemmas.Grind.{common_steps}
+use Rattle.jl_model.proofs.Causing.{cause_none}
 use Rattle.jl_nquads.proofs.Fronts.{appended_piece}
 use Rattle.jl_nquads.proofs.lines.put_rest.Goals as goal
 
@@ -10,6 +12,9 @@ loop-at-preserved g c =
     record {
       within = grind (arith, common_steps);
       put = grind (arith, common_steps, c.in_ok-at.ensures.put);
-      later = omega (arith, c.put.ensures.cause.later);
+      counted = search rules;
       beside = b;
     }
+
+pub returns-clause-cause : goal.returns-clause-cause
+returns-clause-cause g c = cause_none (g.B.ByteOut.put_faults c.args.out.now) (g.B.ByteOut.put_faults c.loop-at.out) _ c.loop-at.invariant.counted (λ e. cc)
