@@ -1,1 +1,4 @@
 pub mod LineCuts
+pub mod Fronts
+pub mod Joins
+pub mod Outcomes

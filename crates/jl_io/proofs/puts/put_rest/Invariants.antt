@@ -1,6 +1,6 @@
 use Rattle.std.proofs.Common.{◌≡◌, ◌≤◌, ◌-◌, length, take}
 use Rattle.jl_io.specs.Outside.{appended}
-use Rattle.jl_nquads.proofs.lines.put_rest.Given as goal
+use Rattle.jl_io.proofs.puts.put_rest.Given as goal
 
 abbrev pub invariant-loop-at : goal.invariant-loop-at
 invariant-loop-at g l = record {

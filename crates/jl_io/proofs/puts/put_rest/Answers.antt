@@ -1,7 +1,7 @@
 use Rattle.std.proofs.Common.{arith}
 use Rattle.std.proofs.lemmas.Grind.{common_steps}
-use Rattle.jl_nquads.proofs.Fronts.{appended_piece}
-use Rattle.jl_nquads.proofs.lines.put_rest.Goals as goal
+use Rattle.jl_io.proofs.Fronts.{appended_piece}
+use Rattle.jl_io.proofs.puts.put_rest.Goals as goal
 
 pub loop-at-preserved : goal.loop-at-preserved
 loop-at-preserved g c =

@@ -1,7 +1,7 @@
 use Rattle.std.proofs.Common.{◌≡◌, ◌≤◌, take}
 use Rattle.jl_io.specs.Outside.{appended}
-use Rattle.jl_nquads.specs.Puts.{joined}
-use Rattle.jl_nquads.proofs.lines.put_parts.Given as goal
+use Rattle.jl_io.specs.Puts.{joined}
+use Rattle.jl_io.proofs.puts.put_parts.Given as goal
 
 abbrev pub invariant-loop-part : goal.invariant-loop-part
 invariant-loop-part g l = record {

@@ -1,6 +1,6 @@
-use Rattle.jl_nquads.proofs.Fronts.{rest_cut}
-use Rattle.jl_nquads.proofs.Outcomes.{on_err_too}
-use Rattle.jl_nquads.proofs.lines.put_all.Goals as goal
+use Rattle.jl_io.proofs.Fronts.{rest_cut}
+use Rattle.jl_io.proofs.Outcomes.{on_err_too}
+use Rattle.jl_io.proofs.puts.put_all.Goals as goal
 
 pub returns-else-taken-bytes-clause-cut : goal.returns-else-taken-bytes-clause-cut
 returns-else-taken-bytes-clause-cut g c =

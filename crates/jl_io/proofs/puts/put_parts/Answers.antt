@@ -1,7 +1,7 @@
 use Rattle.std.proofs.Common.{arith}
-use Rattle.jl_nquads.proofs.Outcomes.{on_err}
-use Rattle.jl_nquads.proofs.Joins.{part_put, part_cut}
-use Rattle.jl_nquads.proofs.lines.put_parts.Goals as goal
+use Rattle.jl_io.proofs.Outcomes.{on_err}
+use Rattle.jl_io.proofs.Joins.{part_put, part_cut}
+use Rattle.jl_io.proofs.puts.put_parts.Goals as goal
 
 pub returns-in_err-put_all-clause-cut : goal.returns-in_err-put_all-clause-cut
 returns-in_err-put_all-clause-cut g c =

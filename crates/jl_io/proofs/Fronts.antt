@@ -3,7 +3,7 @@ use Rattle.std.proofs.Common.{◌≡◌, ℕ, ◌+◌, ◌-◌, ◌<◌, List, �
 use Rattle.std.proofs.lemmas.List.{take-append-drop, take_all}
 use Rattle.std.proofs.Math.Seq.{take-add}
 use Rattle.jl_io.specs.Outside.{appended}
-use Rattle.jl_nquads.specs.Puts.{PutsFront}
+use Rattle.jl_io.specs.Puts.{PutsFront}
 
 pub appended-appended : (told : Option (List ℕ)) (a b : List ℕ) → appended (appended told a) b ≡ appended told (a ++ b)
 appended-appended None a b = refl
