@@ -1,0 +1,44 @@
+-- The predicates of a node, the last one first.
+use Rattle.std.proofs.Common.{◌≡◌, ℕ, suc, ◌+◌, ◌<◌, List, [], ◌∷◌, ◌++◌, Bool, true, false, ◌||◌, refl, sym, ap, ap₂, Option, Some, ◌-◌, get_or, drop, ◌∙◌, subst, reverse, bytes_eq, arith, length, take}
+use Rattle.std.proofs.lemmas.List.{reverse-append, take_more, take_all}
+use Rattle.std.proofs.lemmas.Option.{slice_get_within, get_or_from_slice_get}
+use Rattle.std.specs.Prelude.{slice_get}
+use Rattle.std.proofs.Math.Bool.{or_comm, or_assoc, or-false}
+use Rattle.std.specs.List.{list_any}
+use Rattle.jl_defs.specs.Texts.{is_among}
+use Rattle.jl_writer.specs.Weights.{texts_weight}
+
+among-append : (xs ys : List (List ℕ)) (p : List ℕ) → is_among (xs ++ ys) p ≡ (is_among xs p || is_among ys p)
+among-append [] ys p = refl
+among-append (x ∷ xs) ys p = ap (λ b. bytes_eq x p || b) (among-append xs ys p) ∙ sym (or_assoc (bytes_eq x p) (is_among xs p) (is_among ys p))
+
+-- a text stands among the texts in their other order
+pub among_reverse : (texts : List (List ℕ)) (p : List ℕ) → is_among (reverse texts) p ≡ list_any (λ t. bytes_eq t p) texts
+among_reverse [] p = refl
+among_reverse (x ∷ xs) p =
+    ap (λ ts. is_among ts p) (reverse-append (x ∷ []) xs)
+    ∙ among-append (reverse xs) (x ∷ []) p
+    ∙ or_comm (is_among (reverse xs) p) (bytes_eq x p || false)
+    ∙ ap₂ (λ a b. a || b) (or-false (bytes_eq x p)) (among_reverse xs p)
+
+weight-append : (xs ys : List (List ℕ)) → texts_weight (xs ++ ys) ≡ texts_weight xs + texts_weight ys
+weight-append [] ys = omega arith
+weight-append (x ∷ xs) ys = let h = weight-append xs ys in omega arith
+
+pub weight_reverse : (texts : List (List ℕ)) → texts_weight (reverse texts) ≡ texts_weight texts
+weight_reverse [] = refl
+weight_reverse (x ∷ xs) =
+    let e = ap texts_weight (reverse-append (x ∷ []) xs) in
+    let a = weight-append (reverse xs) (x ∷ []) in
+    let h = weight_reverse xs in
+    omega arith
+
+-- the last of the texts is the first in their other order
+pub last_reverse : (texts : List (List ℕ)) (last : List ℕ) → slice_get texts (length texts - 1) ≡ Some last → (others : List (List ℕ)) × (reverse texts ≡ last ∷ others)
+last_reverse texts last h =
+    let within = slice_get_within texts (length texts - 1) last h in
+    let found = get_or_from_slice_get texts (length texts - 1) last last h in
+    let one : length texts - 1 + 1 ≡ length texts = omega arith in
+    let whole : texts ≡ take (length texts - 1) texts ++ last ∷ [] =
+    sym (take_all (length texts) texts (omega arith)) ∙ ap (λ n. take n texts) (sym one) ∙ take_more texts (length texts - 1) last within ∙ ap (λ t. take (length texts - 1) texts ++ t ∷ []) found in
+    (reverse (take (length texts - 1) texts), ap reverse whole ∙ reverse-append (take (length texts - 1) texts) (last ∷ []))
