@@ -1,11 +1,13 @@
 -- Texts that are put in parts.
-use Rattle.std.proofs.Common.{◌≡◌, ℕ, List, [], ◌∷◌, ◌++◌, Option, Result, Ok, Err, OnOk, OnErr, bytes_eq, IsTrue, true, false, Bool, refl, sym, ap, ◌∙◌, subst, append_assoc, append-nil, codes}
+use Rattle.std.proofs.Common.{◌≡◌, ℕ, List, [], ◌∷◌, ◌++◌, Option, Result, Ok, Err, OnOk, OnErr, Some, bytes_eq, IsTrue, true, false, Bool, refl, sym, ap, ◌∙◌, subst, append_assoc, append-nil, codes}
 use Rattle.jl_io.specs.Outside.{appended}
 use Rattle.jl_io.specs.Puts.{PutsFront}
 use Rattle.jl_io.proofs.Fronts.{put_then, cut_first, cut_then}
 use Rattle.jl_defs.specs.Canon.{string_text}
 use Rattle.jl_model.specs.Parts.{xsd_string}
 use Rattle.jl_model.specs.Tags.{is_language_tag}
+use Rattle.jl_model.specs.declared.terms.Lit.{Lit}
+use Rattle.jl_defs.specs.WriterText.{literal_value}
 use Rattle.jl_writer.specs.Steps.{tagged_value, untagged_value, typed_unless}
 use Rattle.jl_writer.specs.Escapes.{IsPlain}
 use Rattle.jl_writer.proofs.PlainTexts.{plain_string, plain_tag}
@@ -64,3 +66,7 @@ member_joined predicate value h = rw (← plain_string predicate h) (simp append
 -- a name and what stands behind it
 pub named_joined : (front sign name string middle rest : List ℕ) → sign ++ name ++ codes "\"" ≡ string → (front ++ (sign ++ (name ++ ((codes "\"" ++ middle) ++ [])))) ++ rest ≡ front ++ string ++ middle ++ rest
 named_joined front sign name string middle rest h = rw (← h) (simp (append_assoc, append-nil))
+
+-- the value of a literal with a language
+pub literal_tagged : (lit : Lit) (tag string : List ℕ) → lit.language ≡ Some tag → string ≡ string_text lit.text → tagged_value tag string ≡ literal_value lit
+literal_tagged lit tag string h e = ap (tagged_value tag) e ∙ sym (ap (λ language. literal_value (record lit { language = language })) h)

@@ -42,3 +42,10 @@ last_reverse texts last h =
     let whole : texts ≡ take (length texts - 1) texts ++ last ∷ [] =
     sym (take_all (length texts) texts (omega arith)) ∙ ap (λ n. take n texts) (sym one) ∙ take_more texts (length texts - 1) last within ∙ ap (λ t. take (length texts - 1) texts ++ t ∷ []) found in
     (reverse (take (length texts - 1) texts), ap reverse whole ∙ reverse-append (take (length texts - 1) texts) (last ∷ []))
+
+-- the weight of one text more
+pub weight_more : (texts : List (List ℕ)) (i : ℕ) (d : List ℕ) → i < length texts → texts_weight (take (i + 1) texts) ≡ texts_weight (take i texts) + (8 + length (get_or texts i d))
+weight_more texts i d h =
+    let e = ap texts_weight (take_more texts i d h) in
+    let a = weight-append (take i texts) (get_or texts i d ∷ []) in
+    omega arith

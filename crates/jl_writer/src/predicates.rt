@@ -86,6 +86,7 @@ fn is_in(texts: &[Text], text: &[u8]) -> bool
     texts.iter().any(|other| other.bytes() == text)
 }
 
+#[tactic(auto, using(crate::proofs::Used::weight_more))]
 fn weight_of(texts: &[Text]) -> u64
     ensures { result ≡ min (texts_weight texts.now) (2 ^ 64 - 1) }
 {
