@@ -1,5 +1,5 @@
 -- The text behind one quad more, and the whole text.
-use Rattle.std.proofs.Common.{◌≡◌, ℕ, ◌<◌, List, [], ◌∷◌, ◌++◌, Option, Some, None, refl, sym, ap, ap₂, ◌∙◌, subst, append_assoc, append-nil, codes, length, length-append, arith}
+use Rattle.std.proofs.Common.{◌≡◌, ℕ, ◌<◌, List, [], ◌∷◌, ◌++◌, Option, Some, None, refl, sym, ap, ◌∙◌, subst, append_assoc, append-nil, codes, length, arith}
 use Rattle.jl_model.specs.Parts.{Parts}
 use Rattle.jl_io.specs.Outside.{appended}
 use Rattle.jl_io.specs.Puts.{PutsFront}

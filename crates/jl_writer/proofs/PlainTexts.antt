@@ -1,15 +1,14 @@
 -- Texts that have no byte to be escaped.
-use Rattle.std.proofs.Common.{◌≡◌, ℕ, suc, ◌+◌, ◌-◌, ◌<◌, ◌≤◌, ◌==◌, ◌||◌, ◌&&◌, Bool, true, false, not, cond, inl, inr, List, [], ◌∷◌, ◌++◌, flat_map, refl, sym, ap, ap₂, ◌∙◌, subst, arith, nat_lt, codes, IsTrue, get_or, add-one, take, drop, Option, Some, None, append_assoc, position}
+use Rattle.std.proofs.Common.{◌≡◌, ℕ, suc, ◌+◌, ◌==◌, ◌&&◌, Bool, true, false, not, cond, inl, inr, List, [], ◌∷◌, ◌++◌, refl, sym, ap, ap₂, ◌∙◌, subst, arith, codes, IsTrue, get_or, add-one, take, drop, Option, Some, None, position}
 use Rattle.std.proofs.lemmas.Bool.{and_parts, cases_Bool, not-true, eqb-true}
 use Rattle.std.proofs.lemmas.List.{take-append-drop}
 use Rattle.std.proofs.lemmas.List.Quantifiers.{position-Some}
 use Rattle.std.proofs.Math.Seq.{drop-cons}
 use Rattle.std.proofs.lemmas.Bool.Decides.{nat_tests}
-use Rattle.std.proofs.lemmas.Grind.{common_steps}
 use Rattle.std.proofs.lemmas.List.Concat.{flat_map-append}
 use Rattle.std.specs.Char.{is_ascii_alphanumeric, is_ascii_alphabetic}
 use Rattle.std.specs.List.{list_all, slice_split, onto_first}
-use Rattle.jl_model.specs.Iris.{IsIri, is_iri_byte, is_scheme_byte, has_iri_form, has_form_at, is_colon, is_scheme}
+use Rattle.jl_model.specs.Iris.{IsIri, is_iri_byte, is_scheme_byte, has_form_at, is_colon, is_scheme}
 use Rattle.jl_model.specs.Labels.{is_kept_label, is_label_byte, is_word_byte, last_byte}
 use Rattle.jl_model.specs.Tags.{is_language_tag, is_dash, is_some_of, are_subtags}
 use Rattle.jl_defs.specs.Canon.{string_byte, string_text}

@@ -1,5 +1,5 @@
 -- Texts that are put in parts.
-use Rattle.std.proofs.Common.{◌≡◌, ℕ, List, [], ◌∷◌, ◌++◌, Option, Result, Ok, Err, OnOk, OnErr, Some, bytes_eq, IsTrue, true, false, Bool, refl, sym, ap, ◌∙◌, subst, append_assoc, append-nil, codes}
+use Rattle.std.proofs.Common.{◌≡◌, ℕ, List, [], ◌++◌, Option, Result, Ok, Err, OnOk, OnErr, Some, bytes_eq, IsTrue, true, false, sym, ap, ◌∙◌, subst, append_assoc, append-nil, codes}
 use Rattle.jl_io.specs.Outside.{appended}
 use Rattle.jl_io.specs.Puts.{PutsFront}
 use Rattle.jl_io.proofs.Fronts.{put_then, cut_first, cut_then}

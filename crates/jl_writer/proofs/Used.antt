@@ -1,12 +1,15 @@
 -- The predicates of a node, the last one first.
-use Rattle.std.proofs.Common.{◌≡◌, ℕ, suc, ◌+◌, ◌<◌, List, [], ◌∷◌, ◌++◌, Bool, true, false, ◌||◌, refl, sym, ap, ap₂, Option, Some, ◌-◌, get_or, drop, ◌∙◌, subst, reverse, bytes_eq, arith, length, take}
+use Rattle.std.proofs.Common.{◌≡◌, ℕ, ◌+◌, ◌<◌, ◌≤◌, None, List, [], ◌∷◌, ◌++◌, false, ◌||◌, refl, sym, ap, ap₂, Option, Some, ◌-◌, get_or, ◌∙◌, reverse, bytes_eq, arith, length, take}
 use Rattle.std.proofs.lemmas.List.{reverse-append, take_more, take_all}
 use Rattle.std.proofs.lemmas.Option.{slice_get_within, get_or_from_slice_get}
 use Rattle.std.specs.Prelude.{slice_get}
 use Rattle.std.proofs.Math.Bool.{or_comm, or_assoc, or-false}
 use Rattle.std.specs.List.{list_any}
+use Rattle.jl_model.specs.declared.terms.Term.{Term}
+use Rattle.jl_model.specs.declared.terms.Term.TheVariants.{Iri, Blank, Literal}
+use Rattle.jl_defs.specs.WriterText.{OpenNode}
 use Rattle.jl_defs.specs.Texts.{is_among}
-use Rattle.jl_writer.specs.Weights.{texts_weight}
+use Rattle.jl_writer.specs.Weights.{texts_weight, term_weight, term_texts, graph_weight, graph_texts, node_weight, node_texts}
 
 among-append : (xs ys : List (List ℕ)) (p : List ℕ) → is_among (xs ++ ys) p ≡ (is_among xs p || is_among ys p)
 among-append [] ys p = refl
@@ -48,4 +51,27 @@ pub weight_more : (texts : List (List ℕ)) (i : ℕ) (d : List ℕ) → i < len
 weight_more texts i d h =
     let e = ap texts_weight (take_more texts i d h) in
     let a = weight-append (take i texts) (get_or texts i d ∷ []) in
+    omega arith
+
+term_within : (t : Term) → term_weight t ≤ texts_weight (term_texts t)
+term_within (Iri iri) = omega arith
+term_within (Blank label) = omega arith
+term_within (Literal lit) = by lit.language
+  where
+    by : (language : Option (List ℕ)) → term_weight (Literal (record lit { language = language })) ≤ texts_weight (term_texts (Literal (record lit { language = language })))
+    by None = omega arith
+    by (Some tag) = omega arith
+
+graph_within : (g : Option Term) → graph_weight g ≤ texts_weight (graph_texts g)
+graph_within None = omega arith
+graph_within (Some t) = term_within t
+
+-- the weight of a node is at most that of its texts
+pub node_within : (n : Option OpenNode) → node_weight n ≤ texts_weight (node_texts n)
+node_within None = omega arith
+node_within (Some n) =
+    let a = weight-append (graph_texts n.graph) (term_texts n.subject ++ n.used) in
+    let b = weight-append (term_texts n.subject) n.used in
+    let g = graph_within n.graph in
+    let s = term_within n.subject in
     omega arith

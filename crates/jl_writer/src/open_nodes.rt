@@ -1,6 +1,5 @@
 //! The node that is open.
 ghost use Rattle.std.specs.Prelude.{◌≡◌, ◌-◌, ◌^◌, ◌++◌, ◌∷◌, Some, IfOk, OnOk, codes, min};
-
 ghost use Rattle.jl_writer.specs.Weights as weights;
 
 use super::predicates::Predicates;

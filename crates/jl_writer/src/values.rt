@@ -61,12 +61,7 @@ fn put_literal<B: ByteOut>(lit: &Lit, made: &Option<Text>, out: &mut B) -> Resul
 }
 
 /// Puts a literal with a language.
-fn put_tagged<B: ByteOut>(
-    tag: &[u8],
-    quote: &[u8],
-    text: &[u8],
-    out: &mut B,
-) -> Result<(), Failed>
+fn put_tagged<B: ByteOut>(tag: &[u8], quote: &[u8], text: &[u8], out: &mut B) -> Result<(), Failed>
     requires { IsTrue (is_language_tag tag.now) }
     ensures put { OnOk result (B.written out.new ≡ appended (B.written out.old) (tagged_value tag.now (quote.now ++ text.now ++ quote.now))) }
     ensures cut { OnErr result (PutsFront (B.written out.old) (tagged_value tag.now (quote.now ++ text.now ++ quote.now)) (B.written out.new)) }

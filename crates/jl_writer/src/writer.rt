@@ -58,9 +58,9 @@ pub struct Writer {
 }
 
 impl Writer {
-    ghost use Rattle.jl_writer.specs.Writing.{IsOpen, HasCause, opened_if, stop_of};
+    ghost use Rattle.jl_writer.specs.Writing.{IsOpen, IfOpen, FaultHasCause, StaysStopped, opened_if, stop_of};
     ghost use Rattle.jl_writer.specs.Steps.{IsStep, added_text, node_after, end_before, closing};
-    ghost use Rattle.jl_writer.specs.Weights.{node_weight};
+    ghost use Rattle.jl_writer.specs.Weights.{node_weight, texts_weight, node_texts};
 
     /// A writer that has put nothing. It takes no memory.
     pub fn new(alloc: Global) -> Writer
@@ -75,15 +75,16 @@ impl Writer {
 
     /// Puts what a quad adds to the text.
     pub fn put<B: ByteOut>(&mut self, quad: &Quad, out: &mut B) -> Result<(), WriteStop>
-        ensures text { OnOk result ((before : Option (List ℕ)) (quads : List Parts) → IsOpen before self.old quads (B.written out.old)
-            → IsOpen before self.new (quads ++ quad.now ∷ []) (B.written out.new)) }
-        ensures cut { OnErr result ((before : Option (List ℕ)) (quads : List Parts) → IsOpen before self.old quads (B.written out.old)
-            → PutsFront before (spec.writer_text (quads ++ quad.now ∷ [])) (B.written out.new)) }
+        // What it puts.
+        ensures text { OnOk result (IfOpen self.old (B.written out.old) (λ before quads.
+            IsOpen before self.new (quads ++ quad.now ∷ []) (B.written out.new))) }
+        ensures cut { OnErr result (IfOpen self.old (B.written out.old) (λ before quads.
+            PutsFront before (spec.writer_text (quads ++ quad.now ∷ [])) (B.written out.new))) }
 
         // Errors, and what stays after one.
-        ensures cause { HasCause (B.put_faults out.old) (B.put_faults out.new) self.old.stopped result }
+        ensures cause { FaultHasCause (B.put_faults out.old) (B.put_faults out.new) self.old.stopped result }
         ensures stops { self.new.stopped ≡ stop_of result }
-        ensures again { IfSome self.old.stopped (λ stop. (result ≡ Err stop) × (self.new ≡ self.old) × (out.new ≡ out.old)) }
+        ensures again { StaysStopped self.old.stopped result ((self.new ≡ self.old) × (out.new ≡ out.old)) }
         ensures beside { B.beside out.old out.new }
     {
         if let Some(stop) = self.stopped {
@@ -96,16 +97,17 @@ impl Writer {
 
     /// Closes the text. The writer has then put nothing again, and may write another text.
     pub fn finish<B: ByteOut>(&mut self, out: &mut B) -> Result<(), WriteStop>
-        ensures text { OnOk result ((before : Option (List ℕ)) (quads : List Parts) → IsOpen before self.old quads (B.written out.old)
-            → B.written out.new ≡ appended before (spec.writer_text quads)) }
+        // What it puts.
+        ensures text { OnOk result (IfOpen self.old (B.written out.old) (λ before quads.
+            B.written out.new ≡ appended before (spec.writer_text quads))) }
         ensures anew { OnOk result ((before : Option (List ℕ)) → IsOpen before self.new [] before) }
-        ensures cut { OnErr result ((before : Option (List ℕ)) (quads : List Parts) → IsOpen before self.old quads (B.written out.old)
-            → PutsFront before (spec.writer_text quads) (B.written out.new)) }
+        ensures cut { OnErr result (IfOpen self.old (B.written out.old) (λ before quads.
+            PutsFront before (spec.writer_text quads) (B.written out.new))) }
 
         // Errors, and what stays after one.
-        ensures cause { HasCause (B.put_faults out.old) (B.put_faults out.new) self.old.stopped result }
+        ensures cause { FaultHasCause (B.put_faults out.old) (B.put_faults out.new) self.old.stopped result }
         ensures stops { self.new.stopped ≡ stop_of result }
-        ensures again { IfSome self.old.stopped (λ stop. (result ≡ Err stop) × (self.new ≡ self.old) × (out.new ≡ out.old)) }
+        ensures again { StaysStopped self.old.stopped result ((self.new ≡ self.old) × (out.new ≡ out.old)) }
         ensures beside { B.beside out.old out.new }
     {
         if let Some(stop) = self.stopped {
@@ -125,8 +127,10 @@ impl Writer {
 
     /// The bytes that the open node holds, and 8 for each of its predicates, up to 2^64 - 1. It
     /// takes no memory.
+    #[tactic(auto, using(crate::proofs::Used::node_within))]
     pub fn weight(&self) -> u64
-        ensures { result ≡ min (node_weight (opened_if self.now.node)) (2 ^ 64 - 1) }
+        ensures sum { result ≡ min (node_weight (opened_if self.now.node)) (2 ^ 64 - 1) }
+        ensures bound { result ≤ 64 + texts_weight (node_texts (opened_if self.now.node)) }
     {
         match &self.node {
             None => 0,

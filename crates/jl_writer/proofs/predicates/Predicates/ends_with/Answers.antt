@@ -1,4 +1,4 @@
-use Rattle.std.proofs.Common.{sym, ap, ap₂, ◌∙◌, bytes_eq, length, ◌-◌}
+use Rattle.std.proofs.Common.{sym, ap, ◌∙◌, bytes_eq, length, ◌-◌}
 use Rattle.std.specs.Prelude.{slice_get}
 use Rattle.jl_defs.specs.WriterText.{is_last}
 use Rattle.jl_writer.proofs.Used.{last_reverse}

@@ -1,7 +1,6 @@
-use Rattle.std.proofs.Common.{◌≡◌, Option, Some, None, Result, Ok, Err, OnOk, ◌∙◌, sym, ap, subst}
+use Rattle.std.proofs.Common.{◌≡◌, Option, Some, None, Result, Ok, Err, OnOk, ◌∙◌, sym, ap}
 use Rattle.std.specs.Result.{result_err}
 use Rattle.jl_io.proofs.Outcomes.{on_err_too}
-use Rattle.jl_defs.specs.WriterText.{open_text}
 use Rattle.jl_writer.specs.Steps.{node_after}
 use Rattle.jl_writer.specs.Writing.{opened_if}
 use Rattle.jl_writer.specs.declared.writer.WriteStop.{WriteStop}
