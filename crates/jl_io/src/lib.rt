@@ -6,6 +6,7 @@
 mod memory;
 mod pairs;
 mod ports;
+mod puts;
 mod shelves;
 mod standard;
 mod streams;
@@ -14,6 +15,7 @@ mod strict;
 pub use memory::MemPort;
 pub use pairs::Pair;
 pub use ports::{ByteOut, Failed, Port};
+pub use puts::{put_all, put_parts};
 pub use shelves::{FetchStop, NoShelf, Shelf};
 pub use standard::StdPort;
 pub use streams::StreamPort;

@@ -10,7 +10,7 @@ use Rattle.jl_engine.specs.declared.engines.EngineState.{EngineState}
 use Rattle.jl_engine.specs.declared.stops.Stop.{Stop}
 use Rattle.jl_engine.specs.declared.stops.Stop.TheVariants.{Refused, OutFault, NoMemory}
 use Rattle.jl_nquads.specs.LineOuts.{TellsLines}
-use Rattle.jl_nquads.proofs.Fronts.{appended-nil}
+use Rattle.jl_io.proofs.Fronts.{appended-nil}
 use Rattle.jl_top.specs.Blocks.{HandsOn, held_of}
 use Rattle.jl_top.specs.Pieces.{IsRead, PutsLines, AddsLines, FedLines, StoppedLines, FinishedLines, AreLeftAtEnd, EndedLines, StopsWithLines, EndsWithLines, is_out_fault}
 use Rattle.jl_top.specs.declared.blocks.Block.{Block}

@@ -2,7 +2,7 @@ use Rattle.std.proofs.Common.{rules}
 use Rattle.std.proofs.Common.{arith}
 use Rattle.std.proofs.lemmas.Grind.{common_steps}
 use Rattle.jl_model.proofs.Causing.{cause_none}
-use Rattle.jl_nquads.proofs.Outcomes.{on_err}
+use Rattle.jl_io.proofs.Outcomes.{on_err}
 use Rattle.jl_nquads.proofs.EscapeRuns.{escaped_piece, escaped_cut}
 use Rattle.jl_nquads.proofs.lines.put_escaped.Goals as goal
 

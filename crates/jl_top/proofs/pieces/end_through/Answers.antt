@@ -1,4 +1,4 @@
-use Rattle.jl_nquads.proofs.Outcomes.{on_ok, either, if_err_too}
+use Rattle.jl_io.proofs.Outcomes.{on_ok, either, if_err_too}
 use Rattle.jl_top.proofs.PieceLines.{finished_lines, ended_lines, failed_finished, failed_ended, rose_alone, same_alone}
 use Rattle.jl_top.proofs.pieces.end_through.Goals as goal
 

@@ -1,4 +1,4 @@
-use Rattle.jl_nquads.proofs.Outcomes.{on_ok, either, if_err_too}
+use Rattle.jl_io.proofs.Outcomes.{on_ok, either, if_err_too}
 use Rattle.jl_top.proofs.PieceLines.{fed_lines, stopped_lines, failed_fed, failed_stopped, rose_alone, same_alone}
 use Rattle.jl_top.proofs.pieces.read_through.Goals as goal
 
