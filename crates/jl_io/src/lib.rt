@@ -7,6 +7,7 @@ mod memory;
 mod pairs;
 mod ports;
 mod shelves;
+mod standard;
 mod streams;
 mod strict;
 
@@ -14,5 +15,6 @@ pub use memory::MemPort;
 pub use pairs::Pair;
 pub use ports::{ByteOut, Failed, Port};
 pub use shelves::{FetchStop, NoShelf, Shelf};
-pub use streams::StdPort;
+pub use standard::StdPort;
+pub use streams::StreamPort;
 pub use strict::StrictPort;
