@@ -1,5 +1,5 @@
 -- What follows from what holds where a call answered Ok, and where it failed.
-use Rattle.std.proofs.Common.{Result, Ok, Err, OnErr, OnOk, IfErr}
+use Rattle.std.proofs.Common.{Result, Ok, Err, OnErr, OnOk, IfErr, ◌≡◌, ap, IsErrOf}
 
 -- what follows on Ok
 pub on_ok : {A E : Type 0} {P Q : Type 0} (r : Result A E) → (P → Q) → OnOk r P → OnOk r Q
@@ -25,3 +25,7 @@ if_err (Err e) f p q = f e p q
 pub if_err_too : {A E : Type 0} {Q R : E → Type 0} (r : Result A E) → ((e : E) → Q e → R e) → IfErr r Q → IfErr r R
 if_err_too (Ok x) f q = q
 if_err_too (Err e) f q = f e q
+
+-- the same error of another call
+pub err_as : {A B E : Type 0} (x y : E) → IsErrOf {T = A} (Err x) y → IsErrOf {T = B} (Err x) y
+err_as x y e = let same : x ≡ y = cc in ap (λ z. Err z) same

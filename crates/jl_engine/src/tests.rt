@@ -37,6 +37,55 @@ impl QuadOut for Shown {
     ghost joins = { λ _ _ _ _ _. tt };
 }
 
+/// An out that fails from its call of this number on, and counts that.
+#[derive(Drop)]
+struct Failing {
+    before: u64,
+    faults: u64,
+}
+
+impl QuadOut for Failing {
+    ghost selects = { λ _ _. true };
+
+    ghost faults = { λ o. o.faults };
+
+    ghost tells = { λ _ _. ⊥ };
+
+    ghost beside = { λ _ _. Unit {0} };
+
+    fn put(&mut self, _quad: &Quad) -> Result<(), OutStop> {
+        if self.before == 0 {
+            self.faults = self.faults.saturating_add(1);
+            return Err(OutStop::Failed);
+        }
+        self.before -= 1;
+        Ok(())
+    }
+
+    ghost itself = { λ _. tt };
+
+    ghost joins = { λ _ _ _ _ _. tt };
+}
+
+/// An out that fails at each of its calls: the answer is the out's failure, which was counted once, and
+/// stays so; where the out takes all, nothing is counted.
+#[test]
+fn an_out_that_fails_is_told_of(rt: HostRuntime) -> Result<(), Fail> {
+    let alloc = rt.alloc();
+    let document = br#"{"@id":"http://a/s","@type":"http://a/T","http://a/p":["x","y"]}"#;
+    for before in 0..4 {
+        let mut engine = Engine::new(alloc, Order::Streaming, None)?;
+        let mut out = Failing { before, faults: 0 };
+        let answer = engine.feed(alloc, document, &mut out);
+        assert_eq!(rt; answer.is_err(), before < 3);
+        assert_eq!(rt; out.faults, u64::from(before < 3));
+        let again = engine.feed(alloc, b" ", &mut out);
+        assert_eq!(rt; again, answer);
+        assert_eq!(rt; out.faults, u64::from(before < 3));
+    }
+    Ok(())
+}
+
 fn show_bytes(out: &mut String, bytes: &[u8]) -> Result<(), AllocError> {
     match std::str::from_utf8(bytes) {
         Ok(text) => out.push_str(text),

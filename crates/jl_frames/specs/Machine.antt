@@ -28,7 +28,7 @@ abbrev pub Step : Type 0
 Step = Result (List Parts × StackState) Fault
 
 abbrev pub state : Option Node → List Open → StackState
-state n k = record { node = n; opens = k; stopped = None }
+state n k = record { node = n; opens = k; stopped = None; short = false }
 
 abbrev pub quiet : Option Node → List Open → Step
 quiet n k = Ok ([], state n k)

@@ -1,5 +1,5 @@
 //! Containers that close.
-ghost use Rattle.std.specs.Prelude.{◌≡◌, ◌∷◌, true, Ok, None, IfOk, IfErr, OnErr, Option, List};
+ghost use Rattle.std.specs.Prelude.{◌≡◌, ◌∷◌, true, Ok, None, IfOk, IfErr, OnErr, Option, List, false};
 ghost use Rattle.jl_frames.specs.Answers.{HasCause};
 ghost use Rattle.jl_frames.specs.Closing.{term_of_lit};
 ghost use Rattle.jl_frames.specs.Machine as spec;
@@ -17,6 +17,7 @@ impl StackState {
     /// The innermost container closes.
     pub(crate) fn on_close(&mut self, alloc: Global) -> Result<Emits, FrameStop>
         requires live { self.old.stopped ≡ None }
+        requires ample { self.old.short ≡ false }
         ensures ok { IfOk result (λ quads. spec.on_close self.old.node self.old.opens ≡ Ok (quads, self.new)) }
         ensures err { IfErr result (λ stop. HasCause stop (spec.on_close self.old.node self.old.opens)) }
         ensures kept { OnErr result (self.new ≡ self.old) }
@@ -31,6 +32,7 @@ impl StackState {
 
     fn close_object(&mut self, alloc: Global) -> Result<Emits, FrameStop>
         requires live { self.old.stopped ≡ None }
+        requires ample { self.old.short ≡ false }
         requires object { spec.in_object self.old.opens ≡ true }
         ensures ok { IfOk result (λ quads. spec.on_close self.old.node self.old.opens ≡ Ok (quads, self.new)) }
         ensures err { IfErr result (λ stop. HasCause stop (spec.on_close self.old.node self.old.opens)) }
@@ -61,6 +63,7 @@ impl StackState {
     /// The object closes, and the one round it is the innermost again.
     fn leave(&mut self)
         requires live { self.old.stopped ≡ None }
+        requires ample { self.old.short ≡ false }
         ensures { (o : Option SpecNode) (k : List SpecOpen) → self.old.opens ≡ Open.Object o ∷ k → self.new ≡ spec.complete o k }
     {
         self.pop_object();
@@ -70,6 +73,7 @@ impl StackState {
     fn pop_object(&mut self)
         ensures state { (o : Option SpecNode) (k : List SpecOpen) → self.old.opens ≡ Open.Object o ∷ k → self.new ≡ record self.old { node = o; opens = k } }
         ensures live { self.new.stopped ≡ self.old.stopped }
+        ensures ample { self.new.short ≡ self.old.short }
     {
         if let Some(open) = self.opens.pop() {
             self.node = open.into_node();
@@ -79,6 +83,7 @@ impl StackState {
     /// A node closes: it is an item of the property round it.
     fn close_node(&mut self, alloc: Global) -> Result<Emits, FrameStop>
         requires live { self.old.stopped ≡ None }
+        requires ample { self.old.short ≡ false }
         ensures ok { IfOk result (λ quads. (o : Option SpecNode) (k : List SpecOpen) → self.old.opens ≡ Open.Object o ∷ k → (quads ≡ spec.hang_on o (spec.subject_of self.old.node)) × (self.new ≡ spec.complete (spec.all_holding o) k)) }
         ensures err { IfErr result (λ stop. stop ≡ FrameStop.NoMemory) }
         ensures kept { OnErr result (self.new ≡ self.old) }
@@ -94,7 +99,7 @@ impl StackState {
     #[tactic(auto, using(crate::proofs::Hanging::hang_on_none))]
     fn hang_node(&mut self, alloc: Global) -> Result<Emits, NoMemory>
         ensures ok { IfOk result (λ quads. quads ≡ spec.hang_on (spec.outer_of self.old.opens) (spec.subject_of self.old.node)) }
-        ensures others { (self.new.opens ≡ self.old.opens) × (self.new.stopped ≡ self.old.stopped) }
+        ensures others { (self.new.opens ≡ self.old.opens) × (self.new.stopped ≡ self.old.stopped) × (self.new.short ≡ self.old.short) }
         ensures kept { OnErr result (self.new ≡ self.old) }
     {
         match &mut self.node {
@@ -107,6 +112,7 @@ impl StackState {
     #[inline(never)]
     fn close_value(&mut self, alloc: Global, lit: Option<Lit>) -> Result<Emits, FrameStop>
         requires live { self.old.stopped ≡ None }
+        requires ample { self.old.short ≡ false }
         ensures ok { IfOk result (λ quads. (o : Option SpecNode) (k : List SpecOpen) → self.old.opens ≡ Open.Object o ∷ k → (quads ≡ spec.hang_on o (term_of_lit lit)) × (self.new ≡ spec.complete (spec.all_holding o) k)) }
         ensures err { IfErr result (λ stop. stop ≡ FrameStop.NoMemory) }
         ensures kept { OnErr result (self.new ≡ self.old) }
@@ -128,6 +134,7 @@ impl StackState {
     /// The object closes, and has given something to the property round it.
     fn leave_kept(&mut self)
         requires live { self.old.stopped ≡ None }
+        requires ample { self.old.short ≡ false }
         ensures { (o : Option SpecNode) (k : List SpecOpen) → self.old.opens ≡ Open.Object o ∷ k → self.new ≡ spec.complete (spec.all_holding o) k }
     {
         self.pop_object();

@@ -1,5 +1,5 @@
 //! Containers that open.
-ghost use Rattle.std.specs.Prelude.{◌≡◌, ◌∷◌, Ok, None, Some, IfOk, IfErr, OnErr, Option};
+ghost use Rattle.std.specs.Prelude.{◌≡◌, ◌∷◌, Ok, None, Some, IfOk, IfErr, OnErr, Option, false};
 ghost use Rattle.jl_frames.specs.Answers.{HasCause};
 ghost use Rattle.jl_frames.specs.Machine as spec;
 ghost use Rattle.jl_frames.specs.Nodes.{opened};
@@ -18,6 +18,7 @@ impl StackState {
     /// A container opens.
     pub(crate) fn on_enter(&mut self, frame: Frame) -> Result<Emits, FrameStop>
         requires live { self.old.stopped ≡ None }
+        requires ample { self.old.short ≡ false }
         ensures ok { IfOk result (λ quads. spec.on_enter frame self.old.node self.old.opens ≡ Ok (quads, self.new)) }
         ensures err { IfErr result (λ stop. HasCause stop (spec.on_enter frame self.old.node self.old.opens)) }
         ensures kept { OnErr result (self.new ≡ self.old) }
@@ -38,6 +39,7 @@ impl StackState {
     #[inline(always)]
     fn on_frame(&mut self, frame: Frame) -> Result<Emits, FrameStop>
         requires live { self.old.stopped ≡ None }
+        requires ample { self.old.short ≡ false }
         ensures ok { IfOk result (λ quads. spec.on_frame frame.role frame self.old.node self.old.opens ≡ Ok (quads, self.new)) }
         ensures err { IfErr result (λ stop. stop ≡ FrameStop.NoMemory) }
         ensures kept { OnErr result (self.new ≡ self.old) }
@@ -52,6 +54,7 @@ impl StackState {
     #[inline(never)]
     fn open_dropped(&mut self) -> Result<Emits, FrameStop>
         requires live { self.old.stopped ≡ None }
+        requires ample { self.old.short ≡ false }
         ensures ok { IfOk result (λ quads. spec.quiet self.old.node (Open.Dropped ∷ self.old.opens) ≡ Ok (quads, self.new)) }
         ensures err { IfErr result (λ stop. stop ≡ FrameStop.NoMemory) }
         ensures kept { OnErr result (self.new ≡ self.old) }
@@ -64,6 +67,7 @@ impl StackState {
 
     fn open_object(&mut self, frame: Frame) -> Result<Emits, FrameStop>
         requires live { self.old.stopped ≡ None }
+        requires ample { self.old.short ≡ false }
         ensures ok { IfOk result (λ quads. spec.quiet (Some (opened frame)) (Open.Object self.old.node ∷ self.old.opens) ≡ Ok (quads, self.new)) }
         ensures err { IfErr result (λ stop. stop ≡ FrameStop.NoMemory) }
         ensures kept { OnErr result (self.new ≡ self.old) }
@@ -85,6 +89,7 @@ impl StackState {
 
     fn open_array(&mut self) -> Result<Emits, FrameStop>
         requires live { self.old.stopped ≡ None }
+        requires ample { self.old.short ≡ false }
         ensures ok { IfOk result (λ quads. spec.quiet (spec.all_holding self.old.node) (Open.Array ∷ self.old.opens) ≡ Ok (quads, self.new)) }
         ensures err { IfErr result (λ stop. stop ≡ FrameStop.NoMemory) }
         ensures kept { OnErr result (self.new ≡ self.old) }
@@ -102,6 +107,7 @@ impl StackState {
     #[inline(never)]
     fn on_types(&mut self, at: u64, keyword: Keyword, role: Role) -> Result<Emits, FrameStop>
         requires live { self.old.stopped ≡ None }
+        requires ample { self.old.short ≡ false }
         ensures ok { IfOk result (λ quads. (n : SpecNode) → self.old.node ≡ Some n → spec.on_types (spec.opens_types keyword role (spec.in_object self.old.opens)) at keyword n self.old.opens ≡ Ok (quads, self.new)) }
         ensures err { IfErr result (λ stop. (n : SpecNode) → HasCause stop (spec.on_types (spec.opens_types keyword role (spec.in_object self.old.opens)) at keyword n self.old.opens)) }
         ensures kept { OnErr result (self.new ≡ self.old) }
@@ -115,6 +121,7 @@ impl StackState {
 
     fn open_types(&mut self) -> Result<Emits, FrameStop>
         requires live { self.old.stopped ≡ None }
+        requires ample { self.old.short ≡ false }
         ensures ok { IfOk result (λ quads. spec.quiet (spec.all_typed self.old.node) (Open.Array ∷ self.old.opens) ≡ Ok (quads, self.new)) }
         ensures err { IfErr result (λ stop. stop ≡ FrameStop.NoMemory) }
         ensures kept { OnErr result (self.new ≡ self.old) }

@@ -1,6 +1,6 @@
 //! The stack.
-ghost use Rattle.std.specs.Prelude.{◌≡◌, true, Ok, Err, None, Some, IfOk, IfErr, IfSome, IsErr};
-ghost use Rattle.jl_frames.specs.Answers.{HasCause, IsBuilt, IsRefusal, after_stop, is_built_key};
+ghost use Rattle.std.specs.Prelude.{◌≡◌, true, false, Ok, Err, None, Some, IfOk, IfErr, IfSome, IsErr};
+ghost use Rattle.jl_frames.specs.Answers.{AnswersAgain, HasCause, IsBuilt, IsRefusal, after_stop, is_built_key};
 ghost use Rattle.jl_frames.specs.Machine as spec;
 
 use super::emits::Emits;
@@ -13,7 +13,7 @@ use std::marker::Model;
 /// The stack of open containers: it is told a document fact by fact, and gives the quads that each
 /// fact brings.
 ///
-/// After a refusal each call answers it again. After want of memory the stack is as before.
+/// After an error each call answers it again, and the stack stays as it is.
 #[derive(Debug, Drop)]
 pub struct Stack {
     state: StackState,
@@ -37,6 +37,7 @@ impl Stack {
                 node: None,
                 opens: Opens::empty(alloc),
                 stopped: None,
+                short: false,
             },
         }
     }
@@ -63,9 +64,10 @@ impl Stack {
         ensures goes { IfOk result (λ quads. spec.enter frame self.old ≡ Ok (quads, self.new)) }
         ensures stops { IfErr result (λ stop. HasCause stop (spec.enter frame self.old)) }
         ensures after { IfErr result (λ stop. self.new ≡ after_stop stop self.old) }
+        ensures again { AnswersAgain self.old result self.new }
     {
-        if let Some(fault) = self.state.stopped {
-            return Err(FrameStop::Refused(fault));
+        if let Some(stop) = self.state.again() {
+            return Err(stop);
         }
         let entered = self.state.on_enter(frame);
         self.state.told(entered)
@@ -77,11 +79,12 @@ impl Stack {
         requires built { is_built_key key.expanded ≡ true }
         ensures goes { IfOk result (λ quads. spec.key key self.old ≡ Ok (quads, self.new)) }
         ensures stops { IfErr result (λ stop. HasCause stop (spec.key key self.old)) }
-        ensures refusal { IfErr result (λ stop. IsRefusal stop) }
+        ensures refusal { self.old.short ≡ false → IfErr result (λ stop. IsRefusal stop) }
         ensures after { IfErr result (λ stop. self.new ≡ after_stop stop self.old) }
+        ensures again { AnswersAgain self.old result self.new }
     {
-        if let Some(fault) = self.state.stopped {
-            return Err(FrameStop::Refused(fault));
+        if let Some(stop) = self.state.again() {
+            return Err(stop);
         }
         let told = self.state.on_key(key);
         self.state.told(told)
@@ -93,9 +96,10 @@ impl Stack {
         ensures goes { IfOk result (λ quads. spec.scalar value self.old ≡ Ok (quads, self.new)) }
         ensures stops { IfErr result (λ stop. HasCause stop (spec.scalar value self.old)) }
         ensures after { IfErr result (λ stop. self.new ≡ after_stop stop self.old) }
+        ensures again { AnswersAgain self.old result self.new }
     {
-        if let Some(fault) = self.state.stopped {
-            return Err(FrameStop::Refused(fault));
+        if let Some(stop) = self.state.again() {
+            return Err(stop);
         }
         let given = self.state.on_scalar(alloc, value);
         self.state.told(given)
@@ -107,9 +111,10 @@ impl Stack {
         ensures goes { IfOk result (λ quads. spec.close self.old ≡ Ok (quads, self.new)) }
         ensures stops { IfErr result (λ stop. HasCause stop (spec.close self.old)) }
         ensures after { IfErr result (λ stop. self.new ≡ after_stop stop self.old) }
+        ensures again { AnswersAgain self.old result self.new }
     {
-        if let Some(fault) = self.state.stopped {
-            return Err(FrameStop::Refused(fault));
+        if let Some(stop) = self.state.again() {
+            return Err(stop);
         }
         let closed = self.state.on_close(alloc);
         self.state.told(closed)

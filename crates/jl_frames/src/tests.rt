@@ -466,6 +466,7 @@ fn a_refusal_stays_and_a_state_goes_on(rt: HostRuntime) -> Result<(), Fail> {
         node: None,
         opens: Opens::empty(rt.alloc()),
         stopped: None,
+        short: false,
     };
     let Some(mut stack) = Stack::from_state(state) else {
         return Ok(());

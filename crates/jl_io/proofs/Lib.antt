@@ -1,1 +1,5 @@
 pub mod LineCuts
+pub mod Told
+pub mod Fronts
+pub mod Joins
+pub mod Outcomes

@@ -5,3 +5,4 @@ pub mod MemoryForm
 pub mod Streams
 pub mod WholeLines
 pub mod Strict
+pub mod Puts

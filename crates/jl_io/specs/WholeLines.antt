@@ -11,7 +11,7 @@ abbrev pub begun_with : ℕ → List (List ℕ) → List (List ℕ)
 begun_with byte [] = []
 begun_with byte (line ∷ lines) = (byte ∷ line) ∷ lines
 
--- the whole lines, each with its line feed; what stands behind the last line feed is none
+-- the whole lines, each with its line feed; what stands after the last line feed is none
 abbrev pub whole_lines : List ℕ → List (List ℕ)
 whole_lines [] = []
 whole_lines (byte ∷ bytes) = if is_line_feed byte then (byte ∷ []) ∷ whole_lines bytes else begun_with byte (whole_lines bytes)

@@ -6,13 +6,17 @@
 mod memory;
 mod pairs;
 mod ports;
+mod puts;
 mod shelves;
+mod standard;
 mod streams;
 mod strict;
 
 pub use memory::MemPort;
 pub use pairs::Pair;
 pub use ports::{ByteOut, Failed, Port};
+pub use puts::{put_all, put_parts};
 pub use shelves::{FetchStop, NoShelf, Shelf};
-pub use streams::StdPort;
+pub use standard::StdPort;
+pub use streams::StreamPort;
 pub use strict::StrictPort;

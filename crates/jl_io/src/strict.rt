@@ -175,7 +175,7 @@ mod tests {
         Ok(StrictPort::new(MemPort::new(alloc, b"xyz", 1, 64)?, pairs))
     }
 
-    /// Whether a second byte is given, once these bytes were put behind the first.
+    /// Whether a second byte is given, once these bytes were put after the first.
     fn gives(mut port: StrictPort, put: &[u8]) -> bool
         requires { port.memory.ended ≡ false }
     {
@@ -190,7 +190,7 @@ mod tests {
         port.take(&mut buf).is_ok()
     }
 
-    /// When the pair is due, its line, what is put behind the first byte, and whether a second one comes.
+    /// When the pair is due, its line, what is put after the first byte, and whether a second one comes.
     const ROWS: [(u64, &[u8], &[u8], bool); 12] = [
         // The first line, the last one, and one between.
         (1, b"a .\n", b"a .\n", true),

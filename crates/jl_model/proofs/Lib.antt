@@ -1,3 +1,4 @@
+pub mod Causing
 mod LineRows
 pub mod LinePlaces
 pub mod LineFollows

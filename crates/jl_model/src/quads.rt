@@ -56,28 +56,32 @@ impl Quad {
 
     /// The subject.
     pub fn subject(&self) -> &Term
-        ensures { result.now ≡ self.now.subject }
+        ensures term { result.now ≡ self.now.subject }
+        ensures formed { IsNode self.now.subject }
     {
         &self.subject
     }
 
     /// The predicate, an IRI.
     pub fn predicate(&self) -> &Text
-        ensures { result.now ≡ self.now.predicate }
+        ensures text { result.now ≡ self.now.predicate }
+        ensures formed { IsIri self.now.predicate }
     {
         &self.predicate
     }
 
     /// The object.
     pub fn object(&self) -> &Term
-        ensures { result.now ≡ self.now.object }
+        ensures term { result.now ≡ self.now.object }
+        ensures formed { IsObject self.now.object }
     {
         &self.object
     }
 
     /// The graph, if it isn't the default graph.
     pub fn graph(&self) -> Option<&Term>
-        ensures { option_copied result ≡ self.now.graph }
+        ensures term { option_copied result ≡ self.now.graph }
+        ensures formed { IsGraph self.now.graph }
     {
         self.graph.as_ref()
     }

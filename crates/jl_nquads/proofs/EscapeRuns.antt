@@ -8,8 +8,8 @@ use Rattle.std.specs.List.{position}
 use Rattle.jl_io.specs.Outside.{appended}
 use Rattle.jl_model.specs.Lines.{escaped}
 use Rattle.jl_nquads.specs.Escapes.{needs_escape, plain_len_of}
-use Rattle.jl_nquads.specs.Puts.{PutsFront}
-use Rattle.jl_nquads.proofs.Fronts.{cut_first, cut_then, put_then, rest_of}
+use Rattle.jl_io.specs.Puts.{PutsFront}
+use Rattle.jl_io.proofs.Fronts.{cut_first, cut_then, put_then, rest_of}
 
 -- the run is a part of the text
 pub run_within : (text : List ℕ) → plain_len_of text ≤ length text

@@ -1,6 +1,4 @@
 pub mod EscapeRuns
-pub mod Fronts
 pub mod Joins
-pub mod Outcomes
 pub mod Telling
 pub mod Triples

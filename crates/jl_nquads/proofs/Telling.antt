@@ -5,7 +5,7 @@ use Rattle.std.proofs.lemmas.List.Concat.{flat_map-append}
 use Rattle.jl_model.specs.Parts.{Parts}
 use Rattle.jl_model.specs.Lines.{line}
 use Rattle.jl_io.specs.Outside.{appended}
-use Rattle.jl_nquads.specs.Puts.{PutsFront}
+use Rattle.jl_io.specs.Puts.{PutsFront}
 use Rattle.jl_nquads.specs.LineOuts.{TellsLines, CountsTold}
 
 -- one more line was put

@@ -2,4 +2,3 @@ pub mod Endings
 pub mod Escapes
 pub mod Forms
 pub mod LineOuts
-pub mod Puts

@@ -7,7 +7,7 @@ ghost use Rattle.jl_model.specs.Causes.{HasCause};
 ghost use Rattle.jl_model.specs.Lines.{line};
 ghost use Rattle.jl_model.specs.Parts.{Parts};
 ghost use Rattle.jl_nquads.specs.LineOuts.{TellsLines, FailsByCount, CountsTold, answer_of, lines_after, refused_after};
-ghost use Rattle.jl_nquads.specs.Puts.{PutsFront};
+ghost use Rattle.jl_io.specs.Puts.{PutsFront};
 
 use super::lines::write_line;
 use jl_io::ByteOut;

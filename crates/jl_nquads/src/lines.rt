@@ -8,60 +8,12 @@ ghost use Rattle.jl_model.specs.Parts.{xsd_string, parts_of};
 ghost use Rattle.jl_io.specs.Outside.{appended};
 ghost use Rattle.jl_nquads.specs.Endings.{ending};
 ghost use Rattle.jl_nquads.specs.Forms.{framed, typed, triple_line};
-ghost use Rattle.jl_nquads.specs.Puts.{PutsFront, joined};
+ghost use Rattle.jl_io.specs.Puts.{PutsFront};
 
 use super::escapes::plain_len;
 use super::forms::{Form, Sign, form_of, is_xsd_string};
-use jl_io::{ByteOut, Failed};
+use jl_io::{ByteOut, Failed, put_all, put_parts};
 use jl_model::{Quad, Term, Text};
-
-/// Puts all the bytes, which the out mostly takes in one call.
-#[inline(always)]
-fn put_all<B: ByteOut>(out: &mut B, bytes: &[u8]) -> Result<(), Failed>
-    ensures put { OnOk result (B.written out.new ≡ appended (B.written out.old) (bytes.now)) }
-    ensures cut { OnErr result (PutsFront (B.written out.old) (bytes.now) (B.written out.new)) }
-    ensures cause { HasCause (B.put_faults out.old) (B.put_faults out.new) (IsErr result) }
-    ensures beside { B.beside out.old out.new }
-{
-    if bytes.is_empty() {
-        return Ok(());
-    }
-    let taken = out.put(bytes)?;
-    if taken == bytes.len() {
-        Ok(())
-    } else {
-        put_rest(out, &bytes[taken..])
-    }
-}
-
-/// Puts all the bytes, however few of them the out takes at once.
-#[inline(never)]
-fn put_rest<B: ByteOut>(out: &mut B, bytes: &[u8]) -> Result<(), Failed>
-    ensures put { OnOk result (B.written out.new ≡ appended (B.written out.old) (bytes.now)) }
-    ensures cut { OnErr result (PutsFront (B.written out.old) (bytes.now) (B.written out.new)) }
-    ensures cause { HasCause (B.put_faults out.old) (B.put_faults out.new) (IsErr result) }
-    ensures beside { B.beside out.old out.new }
-{
-    let mut at = 0;
-    while at < bytes.len() {
-        at += out.put(&bytes[at..])?;
-    }
-    Ok(())
-}
-
-/// Puts these texts, one after another.
-#[inline(always)]
-fn put_parts<B: ByteOut>(out: &mut B, parts: &[&[u8]]) -> Result<(), Failed>
-    ensures put { OnOk result (B.written out.new ≡ appended (B.written out.old) (joined parts.now)) }
-    ensures cut { OnErr result (PutsFront (B.written out.old) (joined parts.now) (B.written out.new)) }
-    ensures cause { HasCause (B.put_faults out.old) (B.put_faults out.new) (IsErr result) }
-    ensures beside { B.beside out.old out.new }
-{
-    for part in parts {
-        put_all(out, part)?;
-    }
-    Ok(())
-}
 
 /// Puts the line of the quad. After a failure a proper front of the line has been put.
 pub fn write_line<B: ByteOut>(quad: &Quad, out: &mut B) -> Result<(), Failed>

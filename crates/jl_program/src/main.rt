@@ -9,7 +9,7 @@ use std::env;
 use std::io::ErrorKind;
 use std::process::ExitCode;
 
-/// The status for want of memory.
+/// The status where memory runs out.
 const NO_MEMORY: u8 = 5;
 
 fn main(rt: HostRuntime) -> ExitCode {
@@ -24,7 +24,7 @@ fn main(rt: HostRuntime) -> ExitCode {
     ExitCode::from(run(alloc, words.as_slice(), &mut port, &mut shelf).status)
 }
 
-/// The words behind the program's name. Where one of them isn't UTF-8 there are none: no command
+/// The words after the program's name. Where one of them isn't UTF-8 there are none: no command
 /// has such a word.
 fn words_of(rt: &HostRuntime, alloc: Global) -> Result<Vec<Text>, NoMemory> {
     let mut words = Vec::new(alloc);

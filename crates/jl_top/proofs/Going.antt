@@ -325,10 +325,6 @@ going_short e0 e1 block t1 l0 l1 w1 count g short told e =
     let same : length told ≡ length g.bytes = ap length is in
     omega arith
 
--- a count has risen from an earlier one on
-pub rose_from : (m n o : ℕ) → m ≤ n → Rose n o → Rose m o
-rose_from m n o h k = let rose : min (n + 1) (2 ^ 64 - 1) ≤ o = k in omega arith
-
 -- two errors that are the same
 pub err_of : (a b : ReadStop) → IsErrOf {T = Unit {0}} (Err a) b → a ≡ b
 err_of a b e = cc
@@ -357,6 +353,13 @@ pub piece_fault_from : (x : Stop) (bytes : ℕ) → piece_stop_for x bytes ≡ O
 piece_fault_from (stops.Refused f) bytes e = absurd (refused_other f (nat_lt (2 ^ 40) bytes) OutFault (inl refl) e)
 piece_fault_from stops.OutFault bytes e = refl
 piece_fault_from stops.NoMemory bytes e = cc
+
+-- and the answer is the out's where the stop is
+pub piece_fault_to : (x : Stop) (bytes : ℕ) (r : ReadStop) → r ≡ piece_stop_for x bytes → x ≡ stops.OutFault → r ≡ OutFault
+piece_fault_to x bytes r e is = e ∙ ap (λ y. piece_stop_for y bytes) is
+
+pub stop_of : (a b : Stop) → ◌≡◌ {A = Result (Unit {0}) Stop} (Err a) (Err b) → a ≡ b
+stop_of a b e = cc
 
 pub piece_take_fault : (x : Stop) (bytes : ℕ) → piece_stop_for x bytes ≡ TakeFault → ⊥
 piece_take_fault (stops.Refused f) bytes e = refused_other f (nat_lt (2 ^ 40) bytes) TakeFault (inr refl) e

@@ -6,7 +6,7 @@ use Rattle.std.proofs.Math.Seq.{drop-drop}
 use Rattle.jl_io.specs.Outside.{appended}
 use Rattle.jl_top.specs.declared.blocks.Block.{Block}
 use Rattle.jl_top.specs.Blocks.{HandsOn, held_of, is_line_feed, CountsLines}
-use Rattle.jl_nquads.proofs.Fronts.{appended-appended, appended-nil, put_then}
+use Rattle.jl_io.proofs.Fronts.{appended-appended, appended-nil, put_then}
 
 count_by-append : (xs ys : List ℕ) → count_by is_line_feed (xs ++ ys) ≡ count_by is_line_feed xs + count_by is_line_feed ys
 count_by-append xs ys = sum_by-append _ xs ys

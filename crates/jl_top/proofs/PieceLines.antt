@@ -10,7 +10,7 @@ use Rattle.jl_engine.specs.declared.engines.EngineState.{EngineState}
 use Rattle.jl_engine.specs.declared.stops.Stop.{Stop}
 use Rattle.jl_engine.specs.declared.stops.Stop.TheVariants.{Refused, OutFault, NoMemory}
 use Rattle.jl_nquads.specs.LineOuts.{TellsLines}
-use Rattle.jl_nquads.proofs.Fronts.{appended-nil}
+use Rattle.jl_io.proofs.Fronts.{appended-nil}
 use Rattle.jl_top.specs.Blocks.{HandsOn, held_of}
 use Rattle.jl_top.specs.Pieces.{IsRead, PutsLines, AddsLines, FedLines, StoppedLines, FinishedLines, AreLeftAtEnd, EndedLines, StopsWithLines, EndsWithLines, is_out_fault}
 use Rattle.jl_top.specs.declared.blocks.Block.{Block}
@@ -223,6 +223,10 @@ module _ (quads : List Parts) (w0 w1 w2 : Option (List ℕ)) (b0 b1 b2 : Block) 
 -- a count that has risen without calls that were refused
 pub rose_alone : (m n r s : ℕ) → r ≡ 0 → s ≡ r → Rose (m + r) (n + s) → Rose m n
 rose_alone m n r s none same h = let rose : min ((m + r) + 1) (2 ^ 64 - 1) ≤ n + s = h in omega arith
+
+-- a count that is the same without calls that were refused
+pub same_alone : (m n r s : ℕ) → s ≡ r → n + s ≡ m + r → n ≡ m
+same_alone m n r s same h = omega (arith, same, h)
 
 -- what holds where a piece stopped the reading
 pub at_stop : (result : Result (Unit {0}) Stop) (stop : Stop) (old new : EngineState) (piece : List ℕ) (w0 w1 : Option (List ℕ)) → StopsWithLines result old new piece w0 w1 → result ≡ Err stop

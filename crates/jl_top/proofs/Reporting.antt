@@ -1,7 +1,8 @@
 -- What a report says, from what the reading answers.
 use Rattle.std.proofs.Common.{◌≡◌, ◌↔◌, ◌<◌, ◌≤◌, ◌^◌, ◌+◌, inl, inr, ℕ, List, [], ◌∷◌, ◌++◌, length, Bool, true, false, refl, sym, ap, ◌∙◌, subst, arith, append_assoc, append-nil, length-append, Option, Some, None, Result, Ok, Err, IsErrOf}
 use Rattle.jl_io.specs.Outside.{Leaves, NoneLeft}
-use Rattle.jl_model.specs.Causes.{HasCause, Rose}
+use Rattle.jl_model.specs.Causes.{HasCause}
+use Rattle.jl_model.proofs.Causing.{cause_none, cause_as}
 use Rattle.jl_model.specs.JsonText.{Begins, Reads}
 use Rattle.jl_model.specs.JsonTree.{Tree}
 use Rattle.jl_model.specs.declared.faults.Fault.{Fault}
@@ -106,21 +107,21 @@ module _ (s : Settings) (taken left_old left_new put : Option (List ℕ)) (told_
   memory_of (Err OutFault) h = λ is. absurd (omega arith)
   memory_of (Err NoMemory) h = λ is. h.stops
 
-  taking_of : (r : Result (Unit {0}) ReadStop) (m n : ℕ) → HasCause m n (IsErrOf r TakeFault) → (report_of r quads).status ≡ 3 → Rose m n
-  taking_of (Ok u) m n h = λ is. absurd (omega arith)
-  taking_of (Err (Refused fault)) m n h = λ is. absurd (omega arith)
-  taking_of (Err TooLong) m n h = λ is. absurd (omega arith)
-  taking_of (Err TakeFault) m n h = λ is. h.failed refl
-  taking_of (Err OutFault) m n h = λ is. absurd (omega arith)
-  taking_of (Err NoMemory) m n h = λ is. absurd (omega arith)
+  taking_of : (r : Result (Unit {0}) ReadStop) (m n : ℕ) → HasCause m n (IsErrOf r TakeFault) → HasCause m n ((report_of r quads).status ≡ 3)
+  taking_of (Ok u) m n h = cause_none m n _ (h.others (λ e. cc)) (λ e. omega arith)
+  taking_of (Err (Refused fault)) m n h = cause_none m n _ (h.others (λ e. cc)) (λ e. omega arith)
+  taking_of (Err TooLong) m n h = cause_none m n _ (h.others (λ e. cc)) (λ e. omega arith)
+  taking_of (Err TakeFault) m n h = cause_as m n _ _ (λ e. refl) (λ e. refl) h
+  taking_of (Err OutFault) m n h = cause_none m n _ (h.others (λ e. cc)) (λ e. omega arith)
+  taking_of (Err NoMemory) m n h = cause_none m n _ (h.others (λ e. cc)) (λ e. omega arith)
 
-  writing_of : (r : Result (Unit {0}) ReadStop) (m n : ℕ) → HasCause m n (IsErrOf r OutFault) → (report_of r quads).status ≡ 4 → Rose m n
-  writing_of (Ok u) m n h = λ is. absurd (omega arith)
-  writing_of (Err (Refused fault)) m n h = λ is. absurd (omega arith)
-  writing_of (Err TooLong) m n h = λ is. absurd (omega arith)
-  writing_of (Err TakeFault) m n h = λ is. absurd (omega arith)
-  writing_of (Err OutFault) m n h = λ is. h.failed refl
-  writing_of (Err NoMemory) m n h = λ is. absurd (omega arith)
+  writing_of : (r : Result (Unit {0}) ReadStop) (m n : ℕ) → HasCause m n (IsErrOf r OutFault) → HasCause m n ((report_of r quads).status ≡ 4)
+  writing_of (Ok u) m n h = cause_none m n _ (h.others (λ e. cc)) (λ e. omega arith)
+  writing_of (Err (Refused fault)) m n h = cause_none m n _ (h.others (λ e. cc)) (λ e. omega arith)
+  writing_of (Err TooLong) m n h = cause_none m n _ (h.others (λ e. cc)) (λ e. omega arith)
+  writing_of (Err TakeFault) m n h = cause_none m n _ (h.others (λ e. cc)) (λ e. omega arith)
+  writing_of (Err OutFault) m n h = cause_as m n _ _ (λ e. refl) (λ e. refl) h
+  writing_of (Err NoMemory) m n h = cause_none m n _ (h.others (λ e. cc)) (λ e. omega arith)
 
   complete_of : (r : Result (Unit {0}) ReadStop) (k0 k1 p0 p1 : ℕ) → AnswersRun s r taken left_old left_new put told_end → HasCause k0 k1 (IsErrOf r TakeFault) → HasCause p0 p1 (IsErrOf r OutFault) → IsComplete s (report_of r quads) left_old k0 k1 p0 p1
   complete_of (Ok u) k0 k1 p0 p1 h k p = λ bytes left accepts short no_take no_put. inl refl
@@ -187,8 +188,8 @@ some_answers s r quads t0 t1 l0 l1 w0 w1 e0 e1 k0 k1 p0 p1 h counts k p = record
   read = read_of s t1 l0 l1 w1 e1 quads r h;
   ended = ended_of s t1 l0 l1 w1 e1 quads r h;
   fault = fault_of s t1 l0 l1 w1 e1 quads r h;
-  taking = record { later = k.later; failed = taking_of s t1 l0 l1 w1 e1 quads r k0 k1 k };
-  writing = record { later = p.later; failed = writing_of s t1 l0 l1 w1 e1 quads r p0 p1 p };
+  taking = taking_of s t1 l0 l1 w1 e1 quads r k0 k1 k;
+  writing = writing_of s t1 l0 l1 w1 e1 quads r p0 p1 p;
   taken = taken_of s t1 l0 l1 w1 e1 quads r h;
   too_long = long_of s t1 l0 l1 w1 e1 quads r h;
   memory = memory_of s t1 l0 l1 w1 e1 quads r h;
@@ -211,8 +212,8 @@ none_answers t l w e k p counts = record {
   read = tt;
   ended = λ is. absurd (omega arith);
   fault = tt;
-  taking = record { later = omega arith; failed = λ is. absurd (omega arith) };
-  writing = record { later = omega arith; failed = λ is. absurd (omega arith) };
+  taking = cause_none k k _ refl (λ is. omega arith);
+  writing = cause_none p p _ refl (λ is. omega arith);
   taken = tt;
   too_long = tt;
   memory = tt;
@@ -229,4 +230,4 @@ words_answers settings t l w e k p is counts = subst (λ o. RunAnswers o (plain_
 pub memory_reported : (settings : Option Settings) (s : Settings) (t l w : Option (List ℕ)) (e : Bool) (k p : ℕ) → Some s ≡ settings → IsFresh t w → RunAnswers settings (plain_report 5 0) t t l l w w e e k k p p
 memory_reported settings s t l w e k p is fresh =
     reading_answers settings s (Err NoMemory) 0 t t l l w w e e k k p p is (memory_answers s t l w e fresh) (no_lines t w fresh)
-    (record { later = omega arith; failed = λ no. cc }) (record { later = omega arith; failed = λ no. cc })
+    (cause_none k k _ refl (λ e. cc)) (cause_none p p _ refl (λ e. cc))

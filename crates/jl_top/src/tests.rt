@@ -715,6 +715,23 @@ fn puts_what_the_out_takes(rt: HostRuntime) -> Result<(), Fail> {
     Ok(())
 }
 
+/// The out fails at each of its bytes: what it took before stands, and nothing else.
+#[test]
+fn fails_wherever_the_out_does(rt: HostRuntime) -> Result<(), Fail> {
+    let alloc = rt.alloc();
+    let words = words_of(alloc, &["read", "--order", "streaming"])?;
+    let line = b"<http://a/s> <http://a/p> \"x\" .\n".as_slice();
+    for room in 0..line.len() {
+        let mut port = MemPort::new(alloc, PAIR, 1, room)?;
+        let mut shelf = NoShelf::new();
+        let report = run(alloc, words.as_slice(), &mut port, &mut shelf);
+        assert_eq!(rt; report.status, 4);
+        assert_eq!(rt; report.quads, 0);
+        assert!(rt; port.output() == &line[..room]);
+    }
+    Ok(())
+}
+
 #[test]
 fn takes_options_in_any_order_and_form(rt: HostRuntime) -> Result<(), Fail> {
     let row = read("a member", PAIR, "<http://a/s> <http://a/p> \"x\" .\n");

@@ -1,8 +1,8 @@
-use Rattle.std.proofs.Common.{refl, subst, ◌∙◌, arith}
+use Rattle.std.proofs.Common.{rules, refl, subst, ◌∙◌}
 use Rattle.std.proofs.lemmas.List.{take_all}
 use Rattle.jl_engine.specs.Standing.{WerePut}
 use Rattle.jl_engine.proofs.Feeding.{put-none}
-use Rattle.jl_engine.proofs.FaultCounts.{rose_later}
+use Rattle.jl_model.proofs.Causing.{cause_none, cause_after}
 use Rattle.jl_engine.proofs.Saying.{put_more, some_of}
 use Rattle.jl_engine.proofs.outs.put_each.Goals as goal
 
@@ -11,7 +11,7 @@ loop-quad-init g c =
     record {
       put = put-none (g.O.QuadOut.tells c.args.out.now) (g.O.QuadOut.tells c.args.out.now) (g.O.QuadOut.selects c.args.out.now) (λ all t. t);
       selects = λ q. refl;
-      later = omega arith;
+      counted = refl;
       beside = g.met.O.QuadOut.itself c.args.out.now;
     }
 
@@ -23,7 +23,7 @@ loop-quad-preserved g c =
           put_more (g.O.QuadOut.tells c.args.out.now) (g.O.QuadOut.tells c.loop-quad.out) (g.O.QuadOut.tells c.put_quad.new.out) (g.O.QuadOut.selects c.args.out.now) (g.O.QuadOut.selects c.loop-quad.out)
           c.args.quads.now c.loop-quad.quad-index c.quad-item.result c.loop-quad-test.true c.quad-item.is i.selects i.put c.in_default.ensures.put;
       selects = λ q. c.put_quad.ensures.selects q ∙ i.selects q;
-      later = omega (arith, i.later, c.put_quad.ensures.cause.later);
+      counted = search rules;
       beside = g.met.O.QuadOut.joins c.args.out.now c.loop-quad.out c.put_quad.new.out i.beside c.put_quad.ensures.beside;
     }
 
@@ -38,10 +38,7 @@ returns-in-Err-clause-selects g c = λ q. c.put_quad.ensures.selects q ∙ c.loo
 
 pub returns-in-Err-clause-cause : goal.returns-in-Err-clause-cause
 returns-in-Err-clause-cause g c =
-    record {
-      later = omega (arith, c.loop-quad.invariant.later, c.put_quad.ensures.cause.later);
-      failed = λ f. rose_later (g.O.QuadOut.faults c.args.out.now) (g.O.QuadOut.faults c.loop-quad.out) (g.O.QuadOut.faults c.put_quad.new.out) c.loop-quad.invariant.later (c.in-Err.ensures.cause.failed f);
-    }
+    cause_after (g.O.QuadOut.faults c.args.out.now) (g.O.QuadOut.faults c.loop-quad.out) (g.O.QuadOut.faults c.put_quad.new.out) _ c.loop-quad.invariant.counted c.in-Err.ensures.cause
 
 pub returns-in-Err-clause-beside : goal.returns-in-Err-clause-beside
 returns-in-Err-clause-beside g c = g.met.O.QuadOut.joins c.args.out.now c.loop-quad.out c.put_quad.new.out c.loop-quad.invariant.beside c.put_quad.ensures.beside
@@ -49,3 +46,6 @@ returns-in-Err-clause-beside g c = g.met.O.QuadOut.joins c.args.out.now c.loop-q
 pub returns-clause-put : goal.returns-clause-put
 returns-clause-put g c =
     subst (WerePut (g.O.QuadOut.tells c.args.out.now) (g.O.QuadOut.tells c.loop-quad.out) (g.O.QuadOut.selects c.args.out.now)) (take_all c.loop-quad.quad-index c.args.quads.now c.loop-quad-test.false) c.loop-quad.invariant.put
+
+pub returns-clause-cause : goal.returns-clause-cause
+returns-clause-cause g c = cause_none (g.O.QuadOut.faults c.args.out.now) (g.O.QuadOut.faults c.loop-quad.out) _ c.loop-quad.invariant.counted (λ e. cc)

@@ -7,7 +7,7 @@ abbrev pub invariant-loop-at : goal.invariant-loop-at
 invariant-loop-at g l = record {
   within : l.at ≤ length l.text;
   put : g.B.ByteOut.written l.out ≡ appended (g.B.ByteOut.written l.initial.out) (flat_map escaped (take l.at l.text));
-  later : g.B.ByteOut.put_faults l.initial.out ≤ g.B.ByteOut.put_faults l.out;
+  counted : g.B.ByteOut.put_faults l.out ≡ g.B.ByteOut.put_faults l.initial.out;
   beside : g.B.ByteOut.beside l.initial.out l.out;
 }
 

@@ -1,9 +1,9 @@
 use Rattle.std.proofs.Common.{codes, flat_map, ◌++◌}
 use Rattle.jl_model.specs.Lines.{escaped, suffix_text}
 use Rattle.jl_nquads.specs.Endings.{ending}
-use Rattle.jl_nquads.proofs.Fronts.{put_then, cut_first, cut_then}
+use Rattle.jl_io.proofs.Fronts.{put_then, cut_first, cut_then}
 use Rattle.jl_nquads.proofs.Joins.{lit_put, lit_cut}
-use Rattle.jl_nquads.proofs.Outcomes.{on_err, on_err_too, on_ok}
+use Rattle.jl_io.proofs.Outcomes.{on_err, on_err_too, on_ok}
 use Rattle.jl_nquads.proofs.lines.put_lit.Goals as goal
 
 pub returns-in_err-put_all-clause-cut : goal.returns-in_err-put_all-clause-cut

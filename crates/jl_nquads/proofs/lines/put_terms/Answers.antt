@@ -1,8 +1,8 @@
 use Rattle.std.proofs.Common.{codes, ◌++◌}
 use Rattle.jl_model.specs.Lines.{spaced, term_text, iri_text, graph_text}
 use Rattle.std.specs.Option.{option_copied}
-use Rattle.jl_nquads.proofs.Fronts.{put_then, cut_first, cut_then}
-use Rattle.jl_nquads.proofs.Outcomes.{on_err, on_err_too, on_ok}
+use Rattle.jl_io.proofs.Fronts.{put_then, cut_first, cut_then}
+use Rattle.jl_io.proofs.Outcomes.{on_err, on_err_too, on_ok}
 use Rattle.jl_nquads.proofs.lines.put_terms.Goals as goal
 
 pub returns-in_err-put_spaced-clause-cut : goal.returns-in_err-put_spaced-clause-cut

@@ -1,5 +1,5 @@
-use Rattle.jl_nquads.proofs.Outcomes.{on_ok, either, if_err_too}
-use Rattle.jl_top.proofs.PieceLines.{finished_lines, ended_lines, failed_finished, failed_ended, rose_alone}
+use Rattle.jl_io.proofs.Outcomes.{on_ok, either, if_err_too}
+use Rattle.jl_top.proofs.PieceLines.{finished_lines, ended_lines, failed_finished, failed_ended, rose_alone, same_alone}
 use Rattle.jl_top.proofs.pieces.end_through.Goals as goal
 
 pub returns-then-lines-clause-stopped : goal.returns-then-lines-clause-stopped
@@ -33,8 +33,12 @@ returns-clause-stopped g c =
 
 pub returns-clause-cause : goal.returns-clause-cause
 returns-clause-cause g c =
+    let h = c.finish-ended.ensures.cause c.requires.begun.3.goes_on in
+    let m = g.B.ByteOut.put_faults c.args.lines.now.out.now in
+    let n = g.B.ByteOut.put_faults c.finish-ended.new.out.out.now in
+    let same = c.finish-ended.ensures.beside.2.unrefused c.if-lines.false in
     record {
       later = c.finish-ended.ensures.beside.2.later;
-      failed = λ e. rose_alone (g.B.ByteOut.put_faults c.args.lines.now.out.now) (g.B.ByteOut.put_faults c.finish-ended.new.out.out.now) c.args.lines.now.refused c.finish-ended.new.out.refused
-          c.requires.unrefused (c.finish-ended.ensures.beside.2.unrefused c.if-lines.false) ((c.finish-ended.ensures.cause c.requires.begun.3.goes_on).failed e);
+      failed = λ e. rose_alone m n c.args.lines.now.refused c.finish-ended.new.out.refused c.requires.unrefused same (h.failed e);
+      others = λ never. same_alone m n c.args.lines.now.refused c.finish-ended.new.out.refused same (h.others never);
     }

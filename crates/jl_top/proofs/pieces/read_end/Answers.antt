@@ -1,6 +1,6 @@
 use Rattle.std.proofs.Common.{subst, sym}
 use Rattle.jl_top.specs.Pieces.{EndedLines}
-use Rattle.jl_nquads.proofs.Outcomes.{on_ok, if_err_too}
+use Rattle.jl_io.proofs.Outcomes.{on_ok, if_err_too}
 use Rattle.jl_top.proofs.PieceLines.{finished_handed, finished_cut, ended_answered, at_end_stop}
 use Rattle.jl_top.proofs.pieces.read_end.Goals as goal
 

@@ -1,6 +1,6 @@
 use Rattle.std.proofs.Common.{subst, sym}
 use Rattle.jl_top.specs.Pieces.{StoppedLines}
-use Rattle.jl_nquads.proofs.Outcomes.{on_ok, if_err_too}
+use Rattle.jl_io.proofs.Outcomes.{on_ok, if_err_too}
 use Rattle.jl_top.proofs.PieceLines.{fed_handed, fed_cut, stopped_answered, at_stop}
 use Rattle.jl_top.proofs.pieces.read_piece.Goals as goal
 

@@ -1,12 +1,14 @@
-use Rattle.std.proofs.Common.{[], min, refl, sym, subst, ◌∙◌, ◌≡◌, ◌+◌, ◌==◌, length, take, arith, IsErr, Err, ap, false, true}
+use Rattle.std.proofs.Common.{rules, [], min, refl, sym, subst, ◌∙◌, ◌≡◌, ◌+◌, ◌==◌, length, take, arith, IsErr, Err, ap, false, true}
 use Rattle.std.proofs.lemmas.List.{length-take, length-take-le}
 use Rattle.std.proofs.lemmas.Bool.{ne_eqb, eq-eqb}
 use Rattle.jl_io.specs.Outside.{appended, Leaves}
+use Rattle.jl_model.proofs.Causing.{cause_none, cause_after, cause_as}
+use Rattle.jl_engine.specs.declared.stops.Stop.TheVariants as stops
 use Rattle.jl_top.specs.Blocks.{CountsLines}
 use Rattle.jl_top.specs.Pieces.{FedLines, StoppedLines}
 use Rattle.jl_top.specs.Runs.{EndsRun, piece_stop_for}
 use Rattle.jl_top.specs.declared.stops.ReadStop.TheVariants.{TakeFault, OutFault}
-use Rattle.jl_top.proofs.Going.{going_start, going_more, begun_more, end_answers, take_answers, piece_answers, long_answers, going_short, piece_fault_from, piece_take_fault, not_out, err_of, rose_from}
+use Rattle.jl_top.proofs.Going.{going_start, going_more, begun_more, end_answers, take_answers, piece_answers, long_answers, going_short, piece_fault_from, piece_take_fault, not_out, err_of, piece_fault_to, stop_of}
 use Rattle.jl_engine.proofs.DuePut.{due-said}
 use Rattle.jl_top.proofs.DueLines.{going_due}
 use Rattle.jl_top.proofs.PieceLines.{at_stop}
@@ -20,8 +22,8 @@ loop-taken-init g c =
       ended = c.requires.open;
       may = c.requires.may;
       said = refl;
-      takes = omega arith;
-      puts = omega arith;
+      takes = refl;
+      puts = refl;
     }
 
 pub take-requires-clause-may : goal.take-requires-clause-may
@@ -43,14 +45,14 @@ returns-in-Err-clause-counts g c = subst (λ w. CountsLines w c.loop-taken.block
 
 pub returns-in-Err-clause-takes : goal.returns-in-Err-clause-takes
 returns-in-Err-clause-takes g c =
-    record {
-      later = omega (arith, c.loop-taken.invariant.takes, c.take.ensures.cause.later);
-      failed = λ e. rose_from (g.P.Port.take_faults c.args.port.now) (g.P.Port.take_faults c.loop-taken.port) (g.P.Port.take_faults c.take.new.self) c.loop-taken.invariant.takes
-          (c.take.ensures.cause.failed (subst (λ r. IsErr r) (sym c.in-Err.is) refl));
-    }
+    let m = g.P.Port.take_faults c.args.port.now in
+    let n = g.P.Port.take_faults c.take.new.self in
+    let h = cause_after m (g.P.Port.take_faults c.loop-taken.port) n _ c.loop-taken.invariant.takes c.take.ensures.cause in
+    cause_as m n _ _ (λ e. refl) (λ e. subst (λ r. IsErr r) (sym c.in-Err.is) refl) h
 
 pub returns-in-Err-clause-puts : goal.returns-in-Err-clause-puts
-returns-in-Err-clause-puts g c = record { later = omega (arith, c.loop-taken.invariant.puts, c.take.ensures.put_faults); failed = λ e. absurd (not_out e) }
+returns-in-Err-clause-puts g c =
+    cause_none (g.P.ByteOut.put_faults c.args.port.now) (g.P.ByteOut.put_faults c.take.new.self) _ (c.take.ensures.put_faults ∙ c.loop-taken.invariant.puts) not_out
 
 pub returns-then-n-eq0-clause-answers : goal.returns-then-n-eq0-clause-answers
 returns-then-n-eq0-clause-answers g c = λ s start.
@@ -73,15 +75,13 @@ returns-then-n-eq0-clause-said g c = g.met.P.Port.keeps_said c.take.new.self c.e
 pub returns-then-n-eq0-clause-takes : goal.returns-then-n-eq0-clause-takes
 returns-then-n-eq0-clause-takes g c =
     let same = g.met.P.Port.keeps_take_faults c.take.new.self c.end.new.port c.end.ensures.beside in
-    record { later = omega (arith, same, c.loop-taken.invariant.takes, c.take.ensures.cause.later); failed = λ e. absurd (c.end.ensures.takes e) }
+    let kept : g.P.Port.take_faults c.take.new.self ≡ g.P.Port.take_faults c.args.port.now = search rules in
+    cause_none (g.P.Port.take_faults c.args.port.now) (g.P.Port.take_faults c.end.new.port) _ (same ∙ kept) c.end.ensures.takes
 
 pub returns-then-n-eq0-clause-puts : goal.returns-then-n-eq0-clause-puts
 returns-then-n-eq0-clause-puts g c =
-    record {
-      later = omega (arith, c.loop-taken.invariant.puts, c.take.ensures.put_faults, c.end.ensures.puts.later);
-      failed = λ e. rose_from (g.P.ByteOut.put_faults c.args.port.now) (g.P.ByteOut.put_faults c.take.new.self) (g.P.ByteOut.put_faults c.end.new.port)
-          (omega (arith, c.loop-taken.invariant.puts, c.take.ensures.put_faults)) (c.end.ensures.puts.failed e);
-    }
+    cause_after (g.P.ByteOut.put_faults c.args.port.now) (g.P.ByteOut.put_faults c.take.new.self) (g.P.ByteOut.put_faults c.end.new.port) _
+    (c.take.ensures.put_faults ∙ c.loop-taken.invariant.puts) c.end.ensures.puts
 
 pub returns-in-Err-read_piece-clause-answers : goal.returns-in-Err-read_piece-clause-answers
 returns-in-Err-read_piece-clause-answers g c = λ s start.
@@ -105,18 +105,19 @@ returns-in-Err-read_piece-clause-said g c = g.met.P.Port.keeps_said c.take.new.s
 pub returns-in-Err-read_piece-clause-takes : goal.returns-in-Err-read_piece-clause-takes
 returns-in-Err-read_piece-clause-takes g c =
     let same = g.met.P.Port.keeps_take_faults c.take.new.self c.read_piece.new.out c.read_piece.ensures.beside in
-    record { later = omega (arith, same, c.loop-taken.invariant.takes, c.take.ensures.cause.later); failed = λ e. absurd (piece_take_fault c.in-Err-read_piece.stop c.bytes.result (sym c.piece_stop.ensures ∙ err_of c.piece_stop.result TakeFault e)) }
+    let kept : g.P.Port.take_faults c.take.new.self ≡ g.P.Port.take_faults c.args.port.now = search rules in
+    cause_none (g.P.Port.take_faults c.args.port.now) (g.P.Port.take_faults c.read_piece.new.out) _ (same ∙ kept)
+    (λ e. piece_take_fault c.in-Err-read_piece.stop c.bytes.result (sym c.piece_stop.ensures ∙ err_of c.piece_stop.result TakeFault e))
 
 pub returns-in-Err-read_piece-clause-puts : goal.returns-in-Err-read_piece-clause-puts
 returns-in-Err-read_piece-clause-puts g c =
-    record {
-      later = omega (arith, c.loop-taken.invariant.puts, c.take.ensures.put_faults, c.read_piece.ensures.cause.later);
-      failed = λ e.
-          let fault = piece_fault_from c.in-Err-read_piece.stop c.bytes.result (sym c.piece_stop.ensures ∙ err_of c.piece_stop.result OutFault e) in
-          rose_from (g.P.ByteOut.put_faults c.args.port.now) (g.P.ByteOut.put_faults c.take.new.self) (g.P.ByteOut.put_faults c.read_piece.new.out)
-          (omega (arith, c.loop-taken.invariant.puts, c.take.ensures.put_faults))
-          (c.read_piece.ensures.cause.failed (c.in-Err-read_piece.is ∙ ap (λ s. Err s) fault));
-    }
+    let m = g.P.ByteOut.put_faults c.args.port.now in
+    let n = g.P.ByteOut.put_faults c.read_piece.new.out in
+    let h = cause_after m (g.P.ByteOut.put_faults c.take.new.self) n _ (c.take.ensures.put_faults ∙ c.loop-taken.invariant.puts) c.read_piece.ensures.cause in
+    cause_as m n _ _
+    (λ e. ap (λ r. Err r) (piece_fault_to c.in-Err-read_piece.stop c.bytes.result c.piece_stop.result c.piece_stop.ensures (stop_of c.in-Err-read_piece.stop stops.OutFault (sym c.in-Err-read_piece.is ∙ e))))
+    (λ e. c.in-Err-read_piece.is ∙ ap (λ s. Err s) (piece_fault_from c.in-Err-read_piece.stop c.bytes.result (sym c.piece_stop.ensures ∙ err_of c.piece_stop.result OutFault e)))
+    h
 
 pub loop-taken-preserved : goal.loop-taken-preserved
 loop-taken-preserved g c =
@@ -127,6 +128,8 @@ loop-taken-preserved g c =
     let long : length piece ≡ c.in-Ok.n = length-take-le c.in-Ok.n c.take.new.buf c.in-Ok.ensures.within in
     let end : (c.in-Ok.n == 0) ≡ false = ne_eqb c.in-Ok.n 0 c.if-n-eq0.false in
     let takes_same = g.met.P.Port.keeps_take_faults c.take.new.self c.read_piece.new.out b in
+    let takes_kept : g.P.Port.take_faults c.take.new.self ≡ g.P.Port.take_faults c.args.port.now = search rules in
+    let puts_kept : g.P.ByteOut.put_faults c.read_piece.new.out ≡ g.P.ByteOut.put_faults c.args.port.now = search rules in
     record {
       going = going_more c.args.engine.now c.loop-taken.engine c.read_piece.new.engine c.loop-taken.block c.read_piece.new.block (g.P.Port.taken c.loop-taken.port) (g.P.Port.taken c.read_piece.new.out) (g.P.Port.left c.args.port.now) (g.P.Port.left c.loop-taken.port) (g.P.Port.left c.read_piece.new.out)
           (g.P.ByteOut.written c.loop-taken.port) (g.P.ByteOut.written c.read_piece.new.out) c.loop-taken.taken (c.loop-taken.taken + c.in-Ok.n) piece k
@@ -143,8 +146,8 @@ loop-taken-preserved g c =
             grants = λ t p short due. (g.met.P.Port.keeps_may_take c.take.new.self c.read_piece.new.out b t p).0 ((c.take.ensures.may_take t p).0 (m.grants t p short due));
           };
       said = g.met.P.Port.keeps_said c.take.new.self c.read_piece.new.out b ∙ c.take.ensures.said ∙ c.loop-taken.invariant.said;
-      takes = omega (arith, takes_same, c.take.ensures.cause.later, c.loop-taken.invariant.takes);
-      puts = omega (arith, c.take.ensures.put_faults, c.read_piece.ensures.cause.later, c.loop-taken.invariant.puts);
+      takes = takes_same ∙ takes_kept;
+      puts = puts_kept;
     }
 
 pub returns-clause-answers : goal.returns-clause-answers

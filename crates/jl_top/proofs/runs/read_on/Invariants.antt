@@ -1,4 +1,4 @@
-use Rattle.std.proofs.Common.{◌≡◌, ◌≤◌, ◌+◌, ◌-◌, ◌^◌, false}
+use Rattle.std.proofs.Common.{◌≡◌, ◌+◌, ◌-◌, ◌^◌, false}
 use Rattle.jl_top.specs.Pieces.{HasBegun}
 use Rattle.jl_top.specs.Promptness.{GrantsTo}
 use Rattle.jl_top.specs.Runs.{Going}
@@ -11,8 +11,8 @@ invariant-loop-taken g l = record {
   ended : g.P.Port.ended l.port ≡ false;
   may : GrantsTo l.initial.engine (g.P.Port.may_take l.port);
   said : g.P.Port.said l.port ≡ g.P.Port.said l.initial.port;
-  takes : g.P.Port.take_faults l.initial.port ≤ g.P.Port.take_faults l.port;
-  puts : g.P.ByteOut.put_faults l.initial.port ≤ g.P.ByteOut.put_faults l.port;
+  takes : g.P.Port.take_faults l.port ≡ g.P.Port.take_faults l.initial.port;
+  puts : g.P.ByteOut.put_faults l.port ≡ g.P.ByteOut.put_faults l.initial.port;
 }
 
 abbrev pub decreases-loop-taken : goal.decreases-loop-taken

@@ -12,7 +12,7 @@ invariant-loop-at g l = record {
   ended : l.self.ended ≡ l.initial.self.ended;
   fed : (s : Settings) (bytes : List ℕ) (quads : List Parts) → Stands s bytes quads l.initial.self → Fed s bytes quads (take l.at l.piece) l.self (g.O.QuadOut.tells l.initial.out) (g.O.QuadOut.tells l.out) (g.O.QuadOut.selects l.initial.out);
   selects : (q : Parts) → g.O.QuadOut.selects l.out q ≡ g.O.QuadOut.selects l.initial.out q;
-  later : g.O.QuadOut.faults l.initial.out ≤ g.O.QuadOut.faults l.out;
+  counted : g.O.QuadOut.faults l.out ≡ g.O.QuadOut.faults l.initial.out;
   beside : g.O.QuadOut.beside l.initial.out l.out;
 }
 

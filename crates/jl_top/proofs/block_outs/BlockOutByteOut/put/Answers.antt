@@ -1,6 +1,6 @@
 use Rattle.std.proofs.Common.{refl, subst, sym, take}
 use Rattle.jl_top.specs.Blocks.{CountsLines}
-use Rattle.jl_nquads.proofs.Outcomes.{on_err}
+use Rattle.jl_io.proofs.Outcomes.{on_err}
 use Rattle.jl_top.proofs.Handing.{hands_same, hands_count, hands_then}
 use Rattle.jl_top.proofs.block_outs.BlockOutByteOut.put.Goals as goal
 

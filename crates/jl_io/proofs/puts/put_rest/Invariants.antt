@@ -1,0 +1,14 @@
+use Rattle.std.proofs.Common.{◌≡◌, ◌≤◌, ◌-◌, length, take}
+use Rattle.jl_io.specs.Outside.{appended}
+use Rattle.jl_io.proofs.puts.put_rest.Given as goal
+
+abbrev pub invariant-loop-at : goal.invariant-loop-at
+invariant-loop-at g l = record {
+  within : l.at ≤ length l.bytes;
+  put : g.B.ByteOut.written l.out ≡ appended (g.B.ByteOut.written l.initial.out) (take l.at l.bytes);
+  counted : g.B.ByteOut.put_faults l.out ≡ g.B.ByteOut.put_faults l.initial.out;
+  beside : g.B.ByteOut.beside l.initial.out l.out;
+}
+
+abbrev pub decreases-loop-at : goal.decreases-loop-at
+decreases-loop-at g l = length l.bytes - l.at

@@ -1,0 +1,4 @@
+pub mod PlainTexts
+pub mod Putting
+pub mod OpenTexts
+pub mod Used

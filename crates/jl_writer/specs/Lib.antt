@@ -1,0 +1,4 @@
+pub mod Escapes
+pub mod Steps
+pub mod Weights
+pub mod Writing
