@@ -4,3 +4,4 @@ pub mod Joins
 pub mod Outcomes
 pub mod Telling
 pub mod Triples
+pub mod SpotRows

@@ -3,3 +3,4 @@ pub mod Escapes
 pub mod Forms
 pub mod LineOuts
 pub mod Puts
+pub mod Spots
