@@ -5,3 +5,4 @@ pub mod Outcomes
 pub mod Telling
 pub mod Triples
 pub mod SpotRows
+pub mod SpotSteps

@@ -87,11 +87,9 @@ has_byte (tokens.comment c) = (35, _, refl)
 has_byte (tokens.line_end c) = (c, _, refl)
 has_byte (tokens.blank c) = (c, _, refl)
 
--- a token ends before the next one where it ends before that and more
-pub ends_before_row : (t : LineToken) (ts : List LineToken) (x y : List ℕ) → IsTrue (ends_before t (bytes_of ts ++ x)) → y ≡ [] ⊎ (0 < length (bytes_of ts)) → IsTrue (ends_before t (bytes_of ts ++ y))
-ends_before_row t [] x y h (inl e) = subst (λ z. IsTrue (ends_before t z)) (sym e) (ends_at_end t)
-ends_before_row t [] x y h (inr l) = absurd (let z : ⊥ = omega (arith, l) in z)
-ends_before_row t (u ∷ ts) x y h k =
+-- before another token, what stands behind that doesn't matter
+pub ends_before_next : (t u : LineToken) (ts : List LineToken) (x y : List ℕ) → IsTrue (ends_before t (bytes_of (u ∷ ts) ++ x)) → IsTrue (ends_before t (bytes_of (u ∷ ts) ++ y))
+ends_before_next t u ts x y h =
     let (b, bs, e) = has_byte u in
     let f : (z : List ℕ) → bytes_of (u ∷ ts) ++ z ≡ b ∷ (bs ++ (bytes_of ts ++ z)) = λ z. append_assoc (token_bytes u) (bytes_of ts) z ∙ ap (λ w. w ++ (bytes_of ts ++ z)) e in
     subst (λ z. IsTrue (ends_before t z)) (sym (f y)) (sym (ends_same t b (bs ++ (bytes_of ts ++ x)) (bs ++ (bytes_of ts ++ y))) ∙ subst (λ z. IsTrue (ends_before t z)) (f x) h)
