@@ -6,3 +6,5 @@ pub mod Telling
 pub mod Triples
 pub mod SpotRows
 pub mod SpotSteps
+pub mod Texts
+pub mod Deciding
