@@ -80,45 +80,57 @@ pub record CanBeTried (test : Written → Bool) : Type 0 where
   pub four_digits : (ds : List ℕ) → IsTrue (test (four ds)) → (length ds ≡ 4) × IsTrue (list_all is_hex_digit ds)
   pub eight_digits : (ds : List ℕ) → IsTrue (test (eight ds)) → (length ds ≡ 8) × IsTrue (list_all is_hex_digit ds)
 
--- the bytes begin a character that passes the test, and has a further property
-abbrev pub BeginsChar : (Written → Bool) → (Written → Type 0) → List ℕ → Type 0
-BeginsChar test P t = (w : Written) × (back : List ℕ) × IsTrue (test w) × P w × (spelling w ≡ t ++ back)
-
-module _ (test : Written → Bool) (P : Written → Type 0) (t : List ℕ) (decide : (w : Written) → Dec (P w)) where
-  Here : Written → Type 0
-  Here w = IsTrue (test w) × P w × ((back : List ℕ) × (spelling w ≡ t ++ back))
+module _ (test : Written → Bool) (Q : Written → Type 0) (decide : (w : Written) → Dec (Q w)) where
+  abbrev Here : Written → Type 0
+  Here w = IsTrue (test w) × Q w
 
   here : (w : Written) → Dec (Here w)
-  unfolding Here
-  here w = go (decide_true (test w)) (decide w) (decide_begins t (spelling w))
+  here w = go (decide_true (test w)) (decide w)
     where
-      go : Dec (IsTrue (test w)) → Dec (P w) → Dec ((back : List ℕ) × (spelling w ≡ t ++ back)) → Dec (IsTrue (test w) × P w × ((back : List ℕ) × (spelling w ≡ t ++ back)))
-      go (yes a) (yes b) (yes c) = yes (a, b, c)
-      go (no m) b c = no (λ h. m h.0)
-      go (yes a) (no m) c = no (λ h. m h.1)
-      go (yes a) (yes b) (no m) = no (λ h. m h.2)
+      go : Dec (IsTrue (test w)) → Dec (Q w) → Dec (IsTrue (test w) × Q w)
+      go (yes a) (yes b) = yes (a, b)
+      go (no m) b = no (λ h. m h.0)
+      go (yes a) (no m) = no (λ h. m h.1)
 
-  found : (w : Written) → Here w → BeginsChar test P t
-  unfolding Here
-  found w h = (w, h.2.0, h.0, h.1, h.2.1)
+  found : (w : Written) → Here w → (v : Written) × IsTrue (test v) × Q v
+  found w h = (w, h.0, h.1)
 
-  pub decide_char : CanBeTried test → Dec (BeginsChar test P t)
-  unfolding Here
-  decide_char can =
+  -- some character that passes the test has the property
+  pub decide_some : CanBeTried test → Dec ((w : Written) × IsTrue (test w) × Q w)
+  decide_some can =
       go (decide_below 1114112 (λ c. Here (itself c)) (λ c. here (itself c)))
       (decide_below 128 (λ c. Here (letter c)) (λ c. here (letter c)))
       (decide_digits 4 (λ ds. Here (four ds)) (λ ds. here (four ds)))
       (decide_digits 8 (λ ds. Here (eight ds)) (λ ds. here (eight ds)))
     where
-      go : Dec ((c : ℕ) × (c < 1114112) × Here (itself c)) → Dec ((c : ℕ) × (c < 128) × Here (letter c)) → Dec (Digits 4 (λ ds. Here (four ds))) → Dec (Digits 8 (λ ds. Here (eight ds))) → Dec (BeginsChar test P t)
+      go : Dec ((c : ℕ) × (c < 1114112) × Here (itself c)) → Dec ((c : ℕ) × (c < 128) × Here (letter c)) → Dec (Digits 4 (λ ds. Here (four ds))) → Dec (Digits 8 (λ ds. Here (eight ds))) → Dec ((w : Written) × IsTrue (test w) × Q w)
       go (yes h) b c d = yes (found (itself h.0) h.2)
       go (no m) (yes h) c d = yes (found (letter h.0) h.2)
       go (no m) (no n) (yes h) d = yes (found (four h.0) h.3)
       go (no m) (no n) (no o) (yes h) = yes (found (eight h.0) h.3)
-      go (no m) (no n) (no o) (no p) = no (λ h. none h.0 (h.2, h.3, (h.1, h.4)))
+      go (no m) (no n) (no o) (no p) = no (λ h. none h.0 (h.1, h.2))
         where
           none : (w : Written) → Here w → ⊥
           none (itself c) h = m (c, can.itself_below c h.0, h)
           none (letter c) h = n (c, can.letter_below c h.0, h)
           none (four ds) h = let k = can.four_digits ds h.0 in o (ds, k.0, k.1, h)
           none (eight ds) h = let k = can.eight_digits ds h.0 in p (ds, k.0, k.1, h)
+
+pub both_decide : {A B : Type 0} → Dec A → Dec B → Dec (A × B)
+both_decide (yes a) (yes b) = yes (a, b)
+both_decide (no m) b = no (λ h. m h.0)
+both_decide (yes a) (no m) = no (λ h. m h.1)
+
+-- the bytes begin a character that passes the test, and has a further property
+abbrev pub BeginsChar : (Written → Bool) → (Written → Type 0) → List ℕ → Type 0
+BeginsChar test P t = (w : Written) × IsTrue (test w) × (P w × ((back : List ℕ) × (spelling w ≡ t ++ back)))
+
+pub decide_begins_char : (test : Written → Bool) (P : Written → Type 0) (t : List ℕ) → ((w : Written) → Dec (P w)) → CanBeTried test → Dec (BeginsChar test P t)
+decide_begins_char test P t decide can = decide_some test (λ w. P w × ((back : List ℕ) × (spelling w ≡ t ++ back))) (λ w. both_decide (decide w) (decide_begins t (spelling w))) can
+
+-- a character that passes the test stands at the front of the bytes
+abbrev pub HasChar : (Written → Bool) → List ℕ → Type 0
+HasChar test t = (w : Written) × IsTrue (test w) × ((back : List ℕ) × (t ≡ spelling w ++ back))
+
+pub decide_has_char : (test : Written → Bool) (t : List ℕ) → CanBeTried test → Dec (HasChar test t)
+decide_has_char test t can = decide_some test (λ w. (back : List ℕ) × (t ≡ spelling w ++ back)) (λ w. decide_begins (spelling w) t) can

@@ -8,3 +8,4 @@ pub mod SpotRows
 pub mod SpotSteps
 pub mod Texts
 pub mod Deciding
+pub mod Characters
