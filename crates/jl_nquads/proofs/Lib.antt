@@ -9,3 +9,4 @@ pub mod SpotSteps
 pub mod Texts
 pub mod Deciding
 pub mod Characters
+pub mod IriForms

@@ -4,3 +4,4 @@ pub mod Forms
 pub mod LineOuts
 pub mod Puts
 pub mod Spots
+pub mod IriFronts
