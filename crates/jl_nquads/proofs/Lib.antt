@@ -10,3 +10,4 @@ pub mod Texts
 pub mod Deciding
 pub mod Characters
 pub mod IriForms
+pub mod TokenBodies
