@@ -11,3 +11,4 @@ pub mod Deciding
 pub mod Characters
 pub mod IriForms
 pub mod TokenBodies
+pub mod Tags
