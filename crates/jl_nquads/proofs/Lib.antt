@@ -12,3 +12,4 @@ pub mod Characters
 pub mod IriForms
 pub mod TokenBodies
 pub mod Tags
+pub mod NoLineEnds

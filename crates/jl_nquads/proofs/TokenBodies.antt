@@ -15,11 +15,11 @@ use Rattle.jl_nquads.proofs.Deciding.{CanBeTried}
 use Rattle.jl_nquads.proofs.IriForms.{ends_scheme, iri_form, iri_front, iri_colon}
 
 -- a test that holds of every number below n
-abbrev all_below : ℕ → (ℕ → Bool) → Bool
+abbrev pub all_below : ℕ → (ℕ → Bool) → Bool
 all_below zero f = true
 all_below (suc n) f = f n && all_below n f
 
-at_below : (n : ℕ) (f : ℕ → Bool) (c : ℕ) → IsTrue (all_below n f) → c < n → IsTrue (f c)
+pub at_below : (n : ℕ) (f : ℕ → Bool) (c : ℕ) → IsTrue (all_below n f) → c < n → IsTrue (f c)
 at_below zero f c h l = absurd (let z : ⊥ = omega (arith, l) in z)
 at_below (suc n) f c h l =
     let p = and_parts (f n) (all_below n f) h in
@@ -125,7 +125,7 @@ iri_to ws h = let p = and_parts (list_all is_iri_character ws) (has_iri_form (me
 
 -- ---- what can be tried
 
-letter_low : (c : ℕ) → IsTrue (is_some (letter_value c)) → c < 128
+pub letter_low : (c : ℕ) → IsTrue (is_some (letter_value c)) → c < 128
 letter_low c h = elim (cases_lt c 128) [ inl l ↦ l | inr l ↦ absurd (false≢true (sym (none l) ∙ h)) ]
   where
     none : 128 ≤ c → is_some (letter_value c) ≡ false
