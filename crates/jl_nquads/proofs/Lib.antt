@@ -13,3 +13,4 @@ pub mod IriForms
 pub mod TokenBodies
 pub mod Tags
 pub mod NoLineEnds
+pub mod TokenBreaks

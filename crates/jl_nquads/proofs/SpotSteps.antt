@@ -4,6 +4,7 @@ use Rattle.std.proofs.lemmas.List.{append_cancel_left}
 use Rattle.jl_model.specs.Parts.{Parts}
 use Rattle.jl_model.specs.LineTokens.{LineToken, token_bytes, is_token, ends_before, is_row, bytes_of, is_line_end}
 use Rattle.jl_nquads.specs.Spots.{Spot, then, goes, said, Left, Begins, StandsAt, Reaches, Breaks, BreaksInside, BreaksAtEnd}
+use Rattle.jl_nquads.proofs.NoLineEnds.{ends_at_line_end}
 use Rattle.jl_nquads.proofs.SpotRows.{goes_on, said_on, row_from, head_is_token, head_ends, tail_is_row, ends_same, ends_at_end, said_goes, ends_before_next}
 
 -- rows that may follow here reach no further than the token, or begin with it, in a text that begins with it and then x
@@ -78,21 +79,17 @@ module _ (s r : Spot) (t : LineToken) where
     breaks = breaks_before b.front b.byte place (j b.front b.byte b.back b.text_is b.breaks) b.breaks;
   }
 
--- each token ends before a line end
-abbrev pub EndsAtLineEnd : Type 0
-EndsAtLineEnd = (t : LineToken) (e : ℕ) → IsTrue (is_line_end e) → IsTrue (is_token t) → IsTrue (ends_before t (e ∷ []))
-
 -- a row that is whole at the end of a text is whole before a line end
-pub whole_at_line_end : EndsAtLineEnd → (row : List LineToken) (e : ℕ) → IsTrue (is_line_end e) → IsTrue (is_row row []) → IsTrue (is_row row (e ∷ []))
-whole_at_line_end h [] e l w = refl
-whole_at_line_end h (t ∷ []) e l w = row_from t [] (e ∷ []) (head_is_token t [] [] w) (h t e l (head_is_token t [] [] w)) refl
-whole_at_line_end h (t ∷ u ∷ ts) e l w =
-    row_from t (u ∷ ts) (e ∷ []) (head_is_token t (u ∷ ts) [] w) (ends_before_next t u ts [] (e ∷ []) (head_ends t (u ∷ ts) [] w)) (whole_at_line_end h (u ∷ ts) e l (tail_is_row t (u ∷ ts) [] w))
+pub whole_at_line_end : (row : List LineToken) (e : ℕ) → IsTrue (is_line_end e) → IsTrue (is_row row []) → IsTrue (is_row row (e ∷ []))
+whole_at_line_end [] e l w = refl
+whole_at_line_end (t ∷ []) e l w = row_from t [] (e ∷ []) (head_is_token t [] [] w) (ends_at_line_end t e [] l) refl
+whole_at_line_end (t ∷ u ∷ ts) e l w =
+    row_from t (u ∷ ts) (e ∷ []) (head_is_token t (u ∷ ts) [] w) (ends_before_next t u ts [] (e ∷ []) (head_ends t (u ∷ ts) [] w)) (whole_at_line_end (u ∷ ts) e l (tail_is_row t (u ∷ ts) [] w))
 
-module _ (ends : EndsAtLineEnd) (s r : Spot) (t : LineToken) (rest : List ℕ) (joins : (e : ℕ) → IsTrue (is_line_end e) → Joins s r t (rest ++ e ∷ [])) where
+module _ (s r : Spot) (t : LineToken) (rest : List ℕ) (joins : (e : ℕ) → IsTrue (is_line_end e) → Joins s r t (rest ++ e ∷ [])) where
   -- the rest of a line that begins with the token
   pub left_behind : (q : List Parts) → Left s (token_bytes t ++ rest) q → Left r rest q
-  left_behind q l = elim ((joins 10 refl).alone [] (10 ∷ []) l.row (whole_at_line_end ends l.row 10 refl l.whole) (said_goes s l.row q l.says) spelled) [
+  left_behind q l = elim ((joins 10 refl).alone [] (10 ∷ []) l.row (whole_at_line_end l.row 10 refl l.whole) (said_goes s l.row q l.says) spelled) [
     | inl h ↦ absurd (let z : ⊥ = omega (arith, h, ap length l.text_is, length-append (token_bytes t) rest) in z)
     | inr (ts, i, f) ↦
         let says : said s (t ∷ ts) ≡ Some q = ap (λ z. said s z) (sym i) ∙ l.says in
