@@ -14,3 +14,4 @@ pub mod TokenBodies
 pub mod Tags
 pub mod NoLineEnds
 pub mod TokenBreaks
+pub mod FramedTokens
