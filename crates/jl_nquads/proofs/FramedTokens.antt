@@ -8,7 +8,7 @@ use Rattle.jl_model.specs.LineTokens.{Written, spelling, meaning, meant_byte, is
 use Rattle.jl_model.specs.LineTokens as tokens
 use Rattle.jl_model.proofs.LineCuts.{opens, only_iri, only_string}
 use Rattle.jl_nquads.specs.IriFronts.{begins_iri, may_stand, GoesOnBy}
-use Rattle.jl_nquads.specs.Spots.{Spot, then, goes, BreaksInside, BreaksAtEnd}
+use Rattle.jl_nquads.specs.Spots.{Spot, leads_to, goes, BreaksInside, BreaksAtEnd}
 use Rattle.jl_nquads.proofs.Characters.{Body, FrontsBody, Closes, characters_behind, same_characters, fronts_behind, fronts_only_behind, fronts_at_end, fine_of_front, fronts_at_close, fronts_within, only_within, decide_fronts, no_close}
 use Rattle.jl_nquads.proofs.NoLineEnds.{is_inside}
 use Rattle.jl_nquads.proofs.SpotRows.{head_is_token}
@@ -36,8 +36,8 @@ module _ (test : Written → Bool) (close first : ℕ) (good fine : List ℕ →
   spelled : (ws : List Written) (x : List ℕ) → token_bytes (token ws) ++ x ≡ first ∷ (flat_map spelling ws ++ close ∷ x)
   spelled ws x = ap (λ z. z ++ x) (f.bytes_are ws) ∙ ap (λ z. first ∷ z) (append_assoc (flat_map spelling ws) (close ∷ []) x)
 
-  pub framed_opens : (s : Spot) → ((ws : List Written) → (r : Spot) × (then s (token ws) ≡ Some r)) → Opens s first IsKind
-  framed_opens s lead = record { kind_of = λ t r x y h l e. f.only t x y h e; leads = λ t k. let l = lead k.0 in (l.0, ap (then s) k.1 ∙ l.1) }
+  pub framed_opens : (s : Spot) → ((ws : List Written) → (r : Spot) × (leads_to s (token ws) ≡ Some r)) → Opens s first IsKind
+  framed_opens s lead = record { kind_of = λ t r x y h l e. f.only t x y h e; leads = λ t k. let l = lead k.0 in (l.0, ap (leads_to s) k.1 ∙ l.1) }
 
   -- it is read in one way
   pub framed_alone : (s r : Spot) (ws : List Written) (x : List ℕ) → IsTrue (is_token (token ws)) → Alone s r (token ws) x
@@ -52,7 +52,7 @@ module _ (test : Written → Bool) (close first : ℕ) (good fine : List ℕ →
       let k = same_characters test close good fine f.body ws vs (x ++ behind) (bytes_of us ++ rest) (f.to ws h).0 (f.to vs hv).0 j in
       inr (us, ap (λ z. z ∷ us) (i ∙ ap token (sym k.0)), k.1)
 
-  pub framed_joins : (s r : Spot) (ws : List Written) (x : List ℕ) → IsTrue (is_token (token ws)) → then s (token ws) ≡ Some r → Joins s r (token ws) x
+  pub framed_joins : (s r : Spot) (ws : List Written) (x : List ℕ) → IsTrue (is_token (token ws)) → leads_to s (token ws) ≡ Some r → Joins s r (token ws) x
   framed_joins s r ws x h l = record { leads = l; token = h; apart = f.apart ws x; alone = framed_alone s r ws x h }
 
   -- ---- fronts of such tokens
@@ -109,7 +109,7 @@ module _ (test : Written → Bool) (close first : ℕ) (good fine : List ℕ →
   front_goes_on m [] n o k = fine_of_front test close good fine f.body m [] k
   front_goes_on m (c ∷ t) n o k = only_within test close good fine f.body m c t (λ e. o t (ap (λ z. z ∷ t) e) (fronts_at_close test close good fine f.body m t (subst (λ z. FrontsBody test close good fine f.body m (z ∷ t)) e k)).1) n k
 
-  module _ (s : Spot) (lead : (ws : List Written) → (r : Spot) × (then s (token ws) ≡ Some r)) (inside : (ws : List Written) → IsTrue (is_inside (token ws))) (t : List ℕ) (st : Stopped (first ∷ t)) where
+  module _ (s : Spot) (lead : (ws : List Written) → (r : Spot) × (leads_to s (token ws) ≡ Some r)) (inside : (ws : List Written) → IsTrue (is_inside (token ws))) (t : List ℕ) (st : Stopped (first ∷ t)) where
     body_is : t ≡ flat_map spelling st.characters ++ st.rest
     body_is = tail_is first first _ _ st.text_is
 

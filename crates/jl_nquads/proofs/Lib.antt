@@ -15,3 +15,4 @@ pub mod Tags
 pub mod NoLineEnds
 pub mod TokenBreaks
 pub mod FramedTokens
+pub mod Stops

@@ -4,29 +4,29 @@ use Rattle.std.proofs.lemmas.Bool.{and_parts, and_from, or_cases, false≢true, 
 use Rattle.jl_model.specs.Parts.{Parts}
 use Rattle.jl_model.specs.LineTokens.{LineToken, token_bytes, is_token, ends_before, is_row, bytes_of, is_line_end, begins_tag}
 use Rattle.jl_model.specs.LineTokens as tokens
-use Rattle.jl_nquads.specs.Spots.{Spot, then, goes, said, says_at}
+use Rattle.jl_nquads.specs.Spots.{Spot, leads_to, goes, said, says_at}
 
 pub both : {a b : Bool} → IsTrue a → IsTrue b → IsTrue (a && b)
 both {a} {b} h k = and_from a b h k
 
 -- a token that may follow, and what follows it
-pub goes_on : (s r : Spot) (t : LineToken) (ts : List LineToken) → then s t ≡ Some r → goes s (t ∷ ts) ≡ goes r ts
+pub goes_on : (s r : Spot) (t : LineToken) (ts : List LineToken) → leads_to s t ≡ Some r → goes s (t ∷ ts) ≡ goes r ts
 goes_on s r t ts e = ap (λ (o : Option Spot). elim o [ None ↦ false | Some x ↦ goes x ts ]) e
 
-pub said_on : (s r : Spot) (t : LineToken) (ts : List LineToken) → then s t ≡ Some r → said s (t ∷ ts) ≡ said r ts
+pub said_on : (s r : Spot) (t : LineToken) (ts : List LineToken) → leads_to s t ≡ Some r → said s (t ∷ ts) ≡ said r ts
 said_on s r t ts e = ap (λ (o : Option Spot). elim o as (λ _. Option (List Parts)) [ None ↦ None | Some x ↦ said x ts ]) e
 
-pub goes_where : (s : Spot) (t : LineToken) (ts : List LineToken) → IsTrue (goes s (t ∷ ts)) → (r : Spot) × (then s t ≡ Some r) × IsTrue (goes r ts)
-goes_where s t ts h = go (then s t) refl h
+pub goes_where : (s : Spot) (t : LineToken) (ts : List LineToken) → IsTrue (goes s (t ∷ ts)) → (r : Spot) × (leads_to s t ≡ Some r) × IsTrue (goes r ts)
+goes_where s t ts h = go (leads_to s t) refl h
   where
-    go : (o : Option Spot) → then s t ≡ o → elim o [ None ↦ false | Some x ↦ goes x ts ] ≡ true → (r : Spot) × (then s t ≡ Some r) × IsTrue (goes r ts)
+    go : (o : Option Spot) → leads_to s t ≡ o → elim o [ None ↦ false | Some x ↦ goes x ts ] ≡ true → (r : Spot) × (leads_to s t ≡ Some r) × IsTrue (goes r ts)
     go None e k = absurd (false≢true k)
     go (Some r) e k = (r, e, k)
 
-pub said_where : (s : Spot) (t : LineToken) (ts : List LineToken) (q : List Parts) → said s (t ∷ ts) ≡ Some q → (r : Spot) × (then s t ≡ Some r) × (said r ts ≡ Some q)
-said_where s t ts q h = go (then s t) refl h
+pub said_where : (s : Spot) (t : LineToken) (ts : List LineToken) (q : List Parts) → said s (t ∷ ts) ≡ Some q → (r : Spot) × (leads_to s t ≡ Some r) × (said r ts ≡ Some q)
+said_where s t ts q h = go (leads_to s t) refl h
   where
-    go : (o : Option Spot) → then s t ≡ o → elim o as (λ _. Option (List Parts)) [ None ↦ None | Some x ↦ said x ts ] ≡ Some q → (r : Spot) × (then s t ≡ Some r) × (said r ts ≡ Some q)
+    go : (o : Option Spot) → leads_to s t ≡ o → elim o as (λ _. Option (List Parts)) [ None ↦ None | Some x ↦ said x ts ] ≡ Some q → (r : Spot) × (leads_to s t ≡ Some r) × (said r ts ≡ Some q)
     go None e k = absurd (let z : ⊥ = cc in z)
     go (Some r) e k = (r, e, k)
 

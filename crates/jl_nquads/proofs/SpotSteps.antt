@@ -3,7 +3,7 @@ use Rattle.std.proofs.Common.{◌≡◌, ℕ, suc, ◌+◌, ◌<◌, ◌≤◌, 
 use Rattle.std.proofs.lemmas.List.{append_cancel_left}
 use Rattle.jl_model.specs.Parts.{Parts}
 use Rattle.jl_model.specs.LineTokens.{LineToken, token_bytes, is_token, ends_before, is_row, bytes_of, is_line_end}
-use Rattle.jl_nquads.specs.Spots.{Spot, then, goes, said, Left, Begins, StandsAt, Reaches, Breaks, BreaksInside, BreaksAtEnd}
+use Rattle.jl_nquads.specs.Spots.{Spot, leads_to, goes, said, Left, Begins, StandsAt, Reaches, Breaks, BreaksInside, BreaksAtEnd}
 use Rattle.jl_nquads.proofs.NoLineEnds.{ends_at_line_end}
 use Rattle.jl_nquads.proofs.SpotRows.{goes_on, said_on, row_from, head_is_token, head_ends, tail_is_row, ends_same, ends_at_end, said_goes, ends_before_next}
 
@@ -14,13 +14,13 @@ Alone s r t x = (behind rest : List ℕ) (row : List LineToken) → IsTrue (is_r
 
 -- the token leads on from s to r in a text where x stands behind it
 pub record Joins (s r : Spot) (t : LineToken) (x : List ℕ) : Type 0 where
-  pub leads : then s t ≡ Some r
+  pub leads : leads_to s t ≡ Some r
   pub token : IsTrue (is_token t)
   pub apart : IsTrue (ends_before t x)
   pub alone : Alone s r t x
 
 module _ (s r : Spot) (t : LineToken) where
-  pub left_before : (rest : List ℕ) (q : List Parts) → then s t ≡ Some r → IsTrue (is_token t) → IsTrue (ends_before t rest) → Left r rest q → Left s (token_bytes t ++ rest) q
+  pub left_before : (rest : List ℕ) (q : List Parts) → leads_to s t ≡ Some r → IsTrue (is_token t) → IsTrue (ends_before t rest) → Left r rest q → Left s (token_bytes t ++ rest) q
   left_before rest q leads token apart l = record {
     row = t ∷ l.row;
     text_is = ap (λ x. token_bytes t ++ x) l.text_is;
@@ -29,7 +29,7 @@ module _ (s r : Spot) (t : LineToken) where
   }
 
   -- a front of a row that follows the token
-  begins_before : (p : List ℕ) (c : ℕ) → then s t ≡ Some r → IsTrue (is_token t) → IsTrue (ends_before t (p ++ c ∷ [])) → Begins r p → Begins s (token_bytes t ++ p)
+  begins_before : (p : List ℕ) (c : ℕ) → leads_to s t ≡ Some r → IsTrue (is_token t) → IsTrue (ends_before t (p ++ c ∷ [])) → Begins r p → Begins s (token_bytes t ++ p)
   begins_before [] c leads token apart b = record { more = []; row = t ∷ []; text_is = append-nil (token_bytes t ++ []); whole = row_from t [] [] token (ends_at_end t) refl; fits = goes_on s r t [] leads }
   begins_before (d ∷ p) c leads token apart b = record {
     more = b.more;

@@ -5,15 +5,15 @@ use Rattle.std.proofs.lemmas.List.Folds.{list_all-append}
 use Rattle.std.specs.List.{list_all}
 use Rattle.jl_model.specs.Parts.{Parts}
 use Rattle.jl_model.specs.LineTokens.{LineToken, token_bytes, is_token, ends_before, is_row, bytes_of, is_line_end}
-use Rattle.jl_nquads.specs.Spots.{Spot, then, goes, said, Left, Begins, StandsAt, Reaches, Breaks, BreaksInside, BreaksAtEnd}
+use Rattle.jl_nquads.specs.Spots.{Spot, leads_to, goes, said, Left, Begins, StandsAt, Reaches, Breaks, BreaksInside, BreaksAtEnd}
 use Rattle.jl_nquads.proofs.NoLineEnds.{not_end, is_inside, token_no_end, end_is}
 use Rattle.jl_nquads.proofs.SpotRows.{goes_on, row_from, ends_at_end, head_is_token, head_ends, tail_is_row, goes_where, said_where}
 use Rattle.jl_nquads.proofs.Texts.{head_is, tail_is, fronts_of, turns}
 
 -- at this spot the tokens that may follow and begin with this byte are those of a kind
 pub record Opens (s : Spot) (b : ℕ) (K : LineToken → Type 0) : Type 0 where
-  pub kind_of : (t : LineToken) (r : Spot) (x y : List ℕ) → IsTrue (is_token t) → then s t ≡ Some r → b ∷ x ≡ token_bytes t ++ y → K t
-  pub leads : (t : LineToken) → K t → (r : Spot) × (then s t ≡ Some r)
+  pub kind_of : (t : LineToken) (r : Spot) (x y : List ℕ) → IsTrue (is_token t) → leads_to s t ≡ Some r → b ∷ x ≡ token_bytes t ++ y → K t
+  pub leads : (t : LineToken) → K t → (r : Spot) × (leads_to s t ≡ Some r)
 
 -- the text begins a token of the kind
 abbrev pub Fronts : (LineToken → Type 0) → List ℕ → Type 0

@@ -4,4 +4,5 @@ pub mod Forms
 pub mod LineOuts
 pub mod Puts
 pub mod Spots
+pub mod Nexts
 pub mod IriFronts

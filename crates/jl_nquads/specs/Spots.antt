@@ -25,33 +25,33 @@ abbrev pub literal_of : List ℕ → List ℕ → Option (List ℕ) → Term
 literal_of text datatype language = Literal (record { text = text; datatype = datatype; language = language })
 
 -- where a token leads
-abbrev pub then : Spot → LineToken → Option Spot
-then begins (tokens.blank b) = Some begins
-then begins (tokens.iri w) = Some (has_subject (Iri (meaning w)))
-then begins (tokens.label c) = Some (has_subject (Blank (ren (encodes c))))
-then begins (tokens.comment c) = Some (has_comment [])
-then (has_subject s) (tokens.blank b) = Some (has_subject s)
-then (has_subject s) (tokens.iri w) = Some (has_predicate s (meaning w))
-then (has_predicate s p) (tokens.blank b) = Some (has_predicate s p)
-then (has_predicate s p) (tokens.iri w) = Some (has_object s p (Iri (meaning w)))
-then (has_predicate s p) (tokens.label c) = Some (has_object s p (Blank (ren (encodes c))))
-then (has_predicate s p) (tokens.string w) = Some (has_string s p (meaning w))
-then (has_string s p t) tokens.carets = Some (has_carets s p t)
-then (has_string s p t) (tokens.tag l) = Some (has_object s p (literal_of t rdf_lang_string (Some l)))
-then (has_string s p t) (tokens.blank b) = Some (has_object s p (literal_of t xsd_string None))
-then (has_string s p t) (tokens.iri w) = Some (has_graph s p (literal_of t xsd_string None) (Iri (meaning w)))
-then (has_string s p t) (tokens.label c) = Some (has_graph s p (literal_of t xsd_string None) (Blank (ren (encodes c))))
-then (has_string s p t) tokens.dot = Some (has_dot (parts_of s p (literal_of t xsd_string None) None))
-then (has_carets s p t) (tokens.iri w) = Some (has_object s p (literal_of t (meaning w) None))
-then (has_object s p o) (tokens.blank b) = Some (has_object s p o)
-then (has_object s p o) (tokens.iri w) = Some (has_graph s p o (Iri (meaning w)))
-then (has_object s p o) (tokens.label c) = Some (has_graph s p o (Blank (ren (encodes c))))
-then (has_object s p o) tokens.dot = Some (has_dot (parts_of s p o None))
-then (has_graph s p o g) (tokens.blank b) = Some (has_graph s p o g)
-then (has_graph s p o g) tokens.dot = Some (has_dot (parts_of s p o (Some g)))
-then (has_dot q) (tokens.blank b) = Some (has_dot q)
-then (has_dot q) (tokens.comment c) = Some (has_comment (q ∷ []))
-then s t = None
+abbrev pub leads_to : Spot → LineToken → Option Spot
+leads_to begins (tokens.blank b) = Some begins
+leads_to begins (tokens.iri w) = Some (has_subject (Iri (meaning w)))
+leads_to begins (tokens.label c) = Some (has_subject (Blank (ren (encodes c))))
+leads_to begins (tokens.comment c) = Some (has_comment [])
+leads_to (has_subject s) (tokens.blank b) = Some (has_subject s)
+leads_to (has_subject s) (tokens.iri w) = Some (has_predicate s (meaning w))
+leads_to (has_predicate s p) (tokens.blank b) = Some (has_predicate s p)
+leads_to (has_predicate s p) (tokens.iri w) = Some (has_object s p (Iri (meaning w)))
+leads_to (has_predicate s p) (tokens.label c) = Some (has_object s p (Blank (ren (encodes c))))
+leads_to (has_predicate s p) (tokens.string w) = Some (has_string s p (meaning w))
+leads_to (has_string s p t) tokens.carets = Some (has_carets s p t)
+leads_to (has_string s p t) (tokens.tag l) = Some (has_object s p (literal_of t rdf_lang_string (Some l)))
+leads_to (has_string s p t) (tokens.blank b) = Some (has_object s p (literal_of t xsd_string None))
+leads_to (has_string s p t) (tokens.iri w) = Some (has_graph s p (literal_of t xsd_string None) (Iri (meaning w)))
+leads_to (has_string s p t) (tokens.label c) = Some (has_graph s p (literal_of t xsd_string None) (Blank (ren (encodes c))))
+leads_to (has_string s p t) tokens.dot = Some (has_dot (parts_of s p (literal_of t xsd_string None) None))
+leads_to (has_carets s p t) (tokens.iri w) = Some (has_object s p (literal_of t (meaning w) None))
+leads_to (has_object s p o) (tokens.blank b) = Some (has_object s p o)
+leads_to (has_object s p o) (tokens.iri w) = Some (has_graph s p o (Iri (meaning w)))
+leads_to (has_object s p o) (tokens.label c) = Some (has_graph s p o (Blank (ren (encodes c))))
+leads_to (has_object s p o) tokens.dot = Some (has_dot (parts_of s p o None))
+leads_to (has_graph s p o g) (tokens.blank b) = Some (has_graph s p o g)
+leads_to (has_graph s p o g) tokens.dot = Some (has_dot (parts_of s p o (Some g)))
+leads_to (has_dot q) (tokens.blank b) = Some (has_dot q)
+leads_to (has_dot q) (tokens.comment c) = Some (has_comment (q ∷ []))
+leads_to s t = None
 
 -- what the line says that ends here, where it may end
 abbrev pub says_at : Spot → Option (List Parts)
@@ -63,12 +63,12 @@ says_at s = None
 -- these tokens may follow, and further ones may too
 abbrev pub goes : Spot → List LineToken → Bool
 goes s [] = true
-goes s (t ∷ ts) = elim (then s t) [ None ↦ false | Some r ↦ goes r ts ]
+goes s (t ∷ ts) = elim (leads_to s t) [ None ↦ false | Some r ↦ goes r ts ]
 
 -- what the line says that ends with these tokens
 abbrev pub said : Spot → List LineToken → Option (List Parts)
 said s [] = says_at s
-said s (t ∷ ts) = elim (then s t) [ None ↦ None | Some r ↦ said r ts ]
+said s (t ∷ ts) = elim (leads_to s t) [ None ↦ None | Some r ↦ said r ts ]
 
 -- from here on the text is the rest of a line, which says these quads
 pub record Left (s : Spot) (text : List ℕ) (quads : List Parts) : Type 0 where

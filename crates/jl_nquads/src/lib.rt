@@ -5,6 +5,7 @@ mod escapes;
 mod forms;
 mod line_outs;
 mod lines;
+mod nexts;
 #[cfg(test)]
 mod tests;
 
