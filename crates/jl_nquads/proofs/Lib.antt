@@ -16,3 +16,4 @@ pub mod NoLineEnds
 pub mod TokenBreaks
 pub mod FramedTokens
 pub mod Stops
+pub mod PlainTokens
