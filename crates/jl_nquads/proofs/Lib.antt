@@ -17,3 +17,4 @@ pub mod TokenBreaks
 pub mod FramedTokens
 pub mod Stops
 pub mod PlainTokens
+pub mod Codes

@@ -42,7 +42,7 @@ encode_all f c high low = elim (cases_lt c 128) [
 above : (c : ℕ) → 13 < c → IsTrue (not_end c)
 above c l = rw (ne_eqb c 10 (λ e. omega (arith, e)), ne_eqb c 13 (λ e. omega (arith, e))) refl
 
-char_no_end : (c : ℕ) → (c < 128 → IsTrue (not_end c)) → IsTrue (list_all not_end (encode c))
+pub char_no_end : (c : ℕ) → (c < 128 → IsTrue (not_end c)) → IsTrue (list_all not_end (encode c))
 char_no_end c h = encode_all not_end c (λ b l. above b (omega arith)) h
 
 -- by trying each number of ASCII
@@ -50,7 +50,7 @@ implied : (a b : Bool) → IsTrue (not a || b) → IsTrue a → IsTrue b
 implied true b h k = h
 implied false b h k = absurd (false≢true k)
 
-within : (f : ℕ → Bool) → IsTrue (all_below 128 (λ x. not (f x) || not_end x)) → (c : ℕ) → IsTrue (f c) → c < 128 → IsTrue (not_end c)
+pub within : (f : ℕ → Bool) → IsTrue (all_below 128 (λ x. not (f x) || not_end x)) → (c : ℕ) → IsTrue (f c) → c < 128 → IsTrue (not_end c)
 within f all c h l = implied (f c) (not_end c) (at_below 128 (λ x. not (f x) || not_end x) c all l) h
 
 hex_all : IsTrue (all_below 128 (λ x. not (is_hex_digit x) || not_end x))

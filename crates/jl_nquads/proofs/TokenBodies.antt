@@ -132,7 +132,7 @@ letter_low c h = elim (cases_lt c 128) [ inl l ↦ l | inr l ↦ absurd (false�
     none l =
         rw (ne_eqb c 116 (λ e. omega (arith, e)), ne_eqb c 98 (λ e. omega (arith, e)), ne_eqb c 110 (λ e. omega (arith, e)), ne_eqb c 114 (λ e. omega (arith, e)), ne_eqb c 102 (λ e. omega (arith, e)), ne_eqb c 34 (λ e. omega (arith, e)), ne_eqb c 39 (λ e. omega (arith, e)), ne_eqb c 92 (λ e. omega (arith, e))) refl
 
-scalar_below : (c : ℕ) → IsTrue (scalar c) → c < 1114112
+pub scalar_below : (c : ℕ) → IsTrue (scalar c) → c < 1114112
 scalar_below c h = elim (scalar_cases c h) [ inl l ↦ omega (arith, l) | inr l ↦ l.1 ]
 
 digits_are : (n : ℕ) (ds : List ℕ) → IsTrue (is_uchar n ds) → (length ds ≡ n) × IsTrue (list_all is_hex_digit ds)

@@ -6,3 +6,4 @@ pub mod Puts
 pub mod Spots
 pub mod Nexts
 pub mod IriFronts
+pub mod CodePoints
