@@ -18,3 +18,4 @@ pub mod FramedTokens
 pub mod Stops
 pub mod PlainTokens
 pub mod Codes
+pub mod Comments
