@@ -19,3 +19,4 @@ pub mod Stops
 pub mod PlainTokens
 pub mod Codes
 pub mod Comments
+pub mod LabelBytes
