@@ -109,9 +109,8 @@ abbrev pub closes_label : ℕ → Bool
 closes_label c = nat_lt c 128 && not (goes_on_label c)
 
 -- such a byte, or a dot and such a byte
-pub data ClosesLabel : List ℕ → Type 0 where
-  at_once : {c : ℕ} {x : List ℕ} → IsTrue (closes_label c) → ClosesLabel (c ∷ x)
-  behind_a_dot : {c : ℕ} {x : List ℕ} → IsTrue (closes_label c) → ClosesLabel (46 ∷ c ∷ x)
+abbrev pub ClosesLabel : List ℕ → Type 0
+ClosesLabel x = (c : ℕ) × (r : List ℕ) × IsTrue (closes_label c) × ((x ≡ c ∷ r) ⊎ (x ≡ 46 ∷ c ∷ r))
 
 -- no character of a label begins with such a byte
 pub not_closed : (c d : ℕ) (x y : List ℕ) → IsTrue (closes_label c) → IsTrue (goes_on_label d) → c ∷ x ≡ encode d ++ y → ⊥

@@ -20,3 +20,4 @@ pub mod PlainTokens
 pub mod Codes
 pub mod Comments
 pub mod LabelBytes
+pub mod LabelTokens

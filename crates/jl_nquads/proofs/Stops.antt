@@ -76,7 +76,7 @@ stuck s c n = record {
 pub stuck_inside : (s : Spot) (c : ℕ) (x : List ℕ) → IsFalse (allows s (opened_by c)) → BreaksInside s (c ∷ x) 0
 stuck_inside s c x n = record { front = []; byte = c; back = x; text_is = refl; breaks = stuck s c n }
 
-other_stops : (s : Spot) → allows s Other ≡ false
+pub other_stops : (s : Spot) → allows s Other ≡ false
 other_stops begins = refl
 other_stops (has_subject s) = refl
 other_stops (has_predicate s p) = refl
