@@ -10,7 +10,7 @@ use Rattle.jl_model.specs.LineTokens.{LineToken, token_bytes, is_token, ends_bef
 use Rattle.jl_model.specs.LineTokens as tokens
 use Rattle.jl_model.proofs.LineCuts.{opens, only_label, ascii_cut}
 use Rattle.jl_nquads.specs.CodePoints.{HasCode, BeginsCode}
-use Rattle.jl_nquads.specs.Nexts.{opened_by, opening, allows}
+use Rattle.jl_nquads.specs.Nexts.{opened_by, opening, allows, StopsBehindLabel}
 use Rattle.jl_nquads.specs.declared.nexts.Next.{Next}
 use Rattle.jl_nquads.specs.declared.nexts.Next.TheVariants.{End, Blank, Iri, Label, Str, Carets, Tag, Dot, Comment, Other}
 use Rattle.jl_nquads.specs.Spots.{Spot, begins, has_subject, has_predicate, has_string, has_carets, has_object, has_graph, has_dot, has_comment, leads_to, goes, said, Left, StandsAt, Reaches, Breaks, BreaksInside, BreaksAtEnd}
@@ -218,3 +218,166 @@ module _ (s : Spot) (cs : List ℕ) (label : IsTrue (is_label cs)) where
       let k = ascii_cut e 46 (encodes es ++ r) (dots ++ t) (lit< tt) (sym f) in
       let (e2, fs, m) = behind_dot before es (subst (λ z. IsTrue (is_label (before ++ z ∷ es))) k.0 l) in
       past_dots dots t (before ++ e ∷ []) e2 fs r p.1 (subst (λ z. IsTrue (is_label z)) (ap (λ z. before ++ e ∷ z) m ∙ sym (append_assoc before (e ∷ []) (e2 ∷ fs))) l) (sym k.1 ∙ ap (λ z. encodes z ++ r) m)
+
+  -- ---- where a text stops behind a label
+
+  encodes_dots : (dots : List ℕ) → IsTrue (list_all is_dot dots) → encodes dots ≡ dots
+  encodes_dots [] h = refl
+  encodes_dots (d ∷ dots) h =
+      let p = and_parts (is_dot d) (list_all is_dot dots) h in
+      let e = eqb-true d 46 p.0 in
+      ap (λ z. z ++ encodes dots) (encode_ascii d (omega (arith, e))) ∙ ap (λ z. d ∷ z) (encodes_dots dots p.1)
+
+  dots_go_on : (dots : List ℕ) → IsTrue (list_all is_dot dots) → IsTrue (list_all goes_on_label dots)
+  dots_go_on [] h = refl
+  dots_go_on (d ∷ dots) h = let p = and_parts (is_dot d) (list_all is_dot dots) h in and_from (goes_on_label d) (list_all goes_on_label dots) (ap goes_on_label (eqb-true d 46 p.0)) (dots_go_on dots p.1)
+
+  module _ (lead : LeadsLabel s) (r : Spot) (l : leads_to s (tokens.label cs) ≡ Some r) where
+    stands_where : (text : List ℕ) (place : ℕ) → StopsBehindLabel r text place → StandsAt r text place
+    stands_where [] place h = absurd h
+    stands_where (b ∷ x) place (inl h) = record { row = []; rest = b ∷ x; text_is = refl; whole = refl; fits = refl; place_is = h.2 }
+    stands_where (b ∷ []) place (inr h) = absurd h.1
+    stands_where (b ∷ c ∷ x) place (inr h) = record { row = tokens.dot ∷ []; rest = c ∷ x; text_is = ap (λ z. z ∷ c ∷ x) h.0; whole = refl; fits = goes_on r (has_dot h.1.0) tokens.dot [] h.1.1; place_is = h.2 }
+
+    reaches_where : (text : List ℕ) (place : ℕ) → StopsBehindLabel r text place → Reaches r text place
+    reaches_where [] place h behind rest row w g e = absurd h
+    reaches_where (b ∷ x) place (inl h) behind rest row w g e = let i = none_follows r b (x ++ behind) rest row h.1 w g e in omega (arith, ap (λ z. length (bytes_of z)) i)
+    reaches_where (b ∷ []) place (inr h) behind rest row w g e = absurd h.1
+    reaches_where (b ∷ c ∷ x) place (inr h) behind rest row w g e = elim (at_dot r (c ∷ (x ++ behind)) rest row w g (ap (λ z. z ∷ c ∷ (x ++ behind)) (sym h.0) ∙ e)) [
+      | inl i ↦ omega (arith, ap (λ z. length (bytes_of z)) i)
+      | inr (ts, q, i, wt, gt, et) ↦ let j = none_follows (has_dot q) c (x ++ behind) rest ts h.1.2 wt gt et in omega (arith, ap (λ z. length (bytes_of z)) (i ∙ ap (λ z. tokens.dot ∷ z) j), h.2)
+    ]
+
+    apart_where : (text : List ℕ) (place : ℕ) → StopsBehindLabel r text place → IsTrue (ends_before (tokens.label cs) text)
+    apart_where [] place h = absurd h
+    apart_where (b ∷ x) place (inl h) = ap (λ z. not z) (ne_eqb b 95 h.0)
+    apart_where (b ∷ x) place (inr h) = ap (λ z. not z) (ne_eqb b 95 (λ e. omega (arith, e, h.0)))
+
+    label_breaks : (dots p : List ℕ) (c place d : ℕ) (back : List ℕ) → IsTrue (list_all is_dot dots) → IsTrue (goes_on_label d) → (d ≡ 46 → ⊥) → encode d ≡ p ++ back → Ends goes_on_label in_label (p ++ c ∷ []) → StopsBehindLabel r (dots ++ (p ++ c ∷ [])) place → place ≤ length (dots ++ p)
+        → Breaks s (95 ∷ 58 ∷ (encodes cs ++ (dots ++ p))) c (suc (suc (length (encodes cs))) + place)
+    label_breaks dots p c place d back h hd n e ends stops inside = record {
+      begins = record {
+        more = back;
+        row = tokens.label (cs ++ (dots ++ d ∷ [])) ∷ [];
+        text_is = ap (λ z. 95 ∷ 58 ∷ z) (append_assoc (encodes cs) (dots ++ p) back ∙ ap (λ z. encodes cs ++ z) (append_assoc dots p back ∙ ap (λ z. dots ++ z) (sym e ∙ sym (append-nil (encode d))) ∙ ap (λ z. z ++ encodes (d ∷ [])) (sym (encodes_dots dots h)) ∙ sym (encodes-append dots (d ∷ []))) ∙ sym (encodes-append cs (dots ++ d ∷ []))) ∙ sym (append-nil (95 ∷ 58 ∷ encodes (cs ++ (dots ++ d ∷ []))));
+        whole = row_from (tokens.label (cs ++ (dots ++ d ∷ []))) [] [] (label_with cs dots d label (dots_go_on dots h) hd n) refl refl;
+        fits = begun;
+      };
+      stands = let k = stands_where (dots ++ (p ++ c ∷ [])) place stops in record {
+        row = tokens.label cs ∷ k.row;
+        rest = k.rest;
+        text_is = whole ∙ ap (λ z. 95 ∷ 58 ∷ z) (ap (λ z. encodes cs ++ z) k.text_is ∙ sym (append_assoc (encodes cs) (bytes_of k.row) k.rest));
+        whole = row_from (tokens.label cs) k.row k.rest label (subst (λ z. IsTrue (ends_before (tokens.label cs) z)) k.text_is (apart_where (dots ++ (p ++ c ∷ [])) place stops)) k.whole;
+        fits = goes_on s r (tokens.label cs) k.row l ∙ k.fits;
+        place_is = ap (λ n. suc (suc (length (encodes cs))) + n) k.place_is ∙ sym (length-append (95 ∷ 58 ∷ encodes cs) (bytes_of k.row));
+      };
+      reaches = reach;
+      within = omega (arith, inside, length-append (encodes cs) (dots ++ p));
+    }
+      where
+        whole : (95 ∷ 58 ∷ (encodes cs ++ (dots ++ p))) ++ c ∷ [] ≡ 95 ∷ 58 ∷ (encodes cs ++ (dots ++ (p ++ c ∷ [])))
+        whole = ap (λ z. 95 ∷ 58 ∷ z) (append_assoc (encodes cs) (dots ++ p) (c ∷ []) ∙ ap (λ z. encodes cs ++ z) (append_assoc dots p (c ∷ [])))
+
+        begun : IsTrue (goes s (tokens.label (cs ++ (dots ++ d ∷ [])) ∷ []))
+        begun = let m = lead (cs ++ (dots ++ d ∷ [])) in goes_on s m.0 (tokens.label (cs ++ (dots ++ d ∷ []))) [] m.1
+
+        reach : Reaches s ((95 ∷ 58 ∷ (encodes cs ++ (dots ++ p))) ++ c ∷ []) (suc (suc (length (encodes cs))) + place)
+        reach behind rest row w g i = go (row_of ((dots ++ (p ++ c ∷ [])) ++ behind) rest row w g (ap (λ z. 95 ∷ 58 ∷ z) (sym (append_assoc (encodes cs) (dots ++ (p ++ c ∷ [])) behind)) ∙ ap (λ z. z ++ behind) (sym whole) ∙ i))
+          where
+            go : Row ((dots ++ (p ++ c ∷ [])) ++ behind) rest row → length (bytes_of row) ≤ suc (suc (length (encodes cs))) + place
+            go (short k) = omega (arith, k)
+            go (same ts j k) =
+                let wt = tail_is_row (tokens.label cs) ts rest (subst (λ z. IsTrue (is_row z rest)) j w) in
+                let gt = sym (goes_on s r (tokens.label cs) ts l) ∙ subst (λ z. IsTrue (goes s z)) j g in
+                let m = reaches_where (dots ++ (p ++ c ∷ [])) place stops behind rest ts wt gt k in
+                omega (arith, m, ap (λ z. length (bytes_of z)) j, length-append (95 ∷ 58 ∷ encodes cs) (bytes_of ts))
+            go (longer f fs y m k) =
+                let (f2, gs, hf, o) = past_dots dots ((p ++ c ∷ []) ++ behind) cs f fs y h m (sym (append_assoc dots (p ++ c ∷ []) behind) ∙ k) in
+                absurd (no_further goes_on_label in_label (p ++ c ∷ []) behind f2 gs y ends hf o)
+
+    -- a front that is long enough stops at the same place
+    stops_front : (y w text z : List ℕ) (place : ℕ) → y ++ w ≡ text ++ z → StopsBehindLabel r y place → place < length text → StopsBehindLabel r text place
+    stops_front [] w text z place e h k = absurd h
+    stops_front (b ∷ x) w [] z place e h k = absurd (let n : ⊥ = omega (arith, k) in n)
+    stops_front (b ∷ x) w (c ∷ text) z place e (inl h) k =
+        let i = head_is b c (x ++ w) (text ++ z) e in
+        inl ((λ j. h.0 (i ∙ j)), subst (λ t. IsFalse (allows r (opened_by t))) i h.1, h.2)
+    stops_front (b ∷ []) w (c ∷ text) z place e (inr h) k = absurd h.1
+    stops_front (b ∷ b2 ∷ x) w (c ∷ []) z place e (inr h) k = absurd (let n : ⊥ = omega (arith, k, h.2) in n)
+    stops_front (b ∷ b2 ∷ x) w (c ∷ c2 ∷ text) z place e (inr h) k =
+        let i = head_is b c (b2 ∷ (x ++ w)) (c2 ∷ (text ++ z)) e in
+        let j = head_is b2 c2 (x ++ w) (text ++ z) (tail_is b c (b2 ∷ (x ++ w)) (c2 ∷ (text ++ z)) e) in
+        inr (sym i ∙ h.0, (h.1.0, h.1.1, subst (λ t. IsFalse (allows (has_dot h.1.0) (opened_by t))) j h.1.2), h.2)
+
+    stops_within : (y : List ℕ) (place : ℕ) → StopsBehindLabel r y place → place < length y
+    stops_within [] place h = absurd h
+    stops_within (b ∷ x) place (inl h) = omega (arith, h.2)
+    stops_within (b ∷ []) place (inr h) = absurd h.1
+    stops_within (b ∷ c ∷ x) place (inr h) = omega (arith, h.2)
+
+    -- the label, dots behind it, and bytes that are no character of a label
+    module _ (dots tail : List ℕ) (place : ℕ) (h : IsTrue (list_all is_dot dots)) (none : HasCode goes_on_label tail → ⊥) (stops : StopsBehindLabel r (dots ++ tail) place) where
+      -- a dot stands at the front of the dots alone
+      dot_before : (x y : List ℕ) → tail ≡ x ++ y → (back : List ℕ) → encode 46 ≡ x ++ back → 0 < length x → ⊥
+      dot_before [] y i back e l = let z : ⊥ = omega (arith, l) in z
+      dot_before (b ∷ x) y i back e l =
+          let f : 46 ∷ [] ≡ b ∷ (x ++ back) = sym (encode_ascii 46 (lit< tt)) ∙ e in
+          let k = head_is 46 b [] (x ++ back) f in
+          none (46, refl, (x ++ y, i ∙ ap (λ z. z ∷ (x ++ y)) (sym k) ∙ ap (λ z. z ++ (x ++ y)) (sym (encode_ascii 46 (lit< tt)))))
+
+      -- a front of the tail goes on to a character that is no dot
+      Goes : List ℕ → Type 0
+      Goes p = (d : ℕ) × IsTrue (goes_on_label d) × (d ≡ 46 → ⊥) × ((back : List ℕ) × (encode d ≡ p ++ back))
+
+      goes_to : (p y : List ℕ) → tail ≡ p ++ y → BeginsCode goes_on_label p → Goes p
+      unfolding Goes
+      goes_to [] y i k = (97, refl, (λ e. let z : ⊥ = omega (arith, e) in z), (encode 97, refl))
+      goes_to (b ∷ p) y i (d, hd, (back, e)) = (d, hd, (λ j. dot_before (b ∷ p) y i back (ap encode (sym j) ∙ e) (omega arith)), (back, e))
+
+      -- the place is within the dots and the tail
+      reaches_tail : (p : List ℕ) (c : ℕ) (y w : List ℕ) → tail ++ w ≡ (p ++ c ∷ []) ++ y → StopsBehindLabel r (dots ++ (p ++ c ∷ [])) place × (place ≤ length (dots ++ p))
+      reaches_tail p c y w i = (stops_front (dots ++ tail) w (dots ++ (p ++ c ∷ [])) y place (append_assoc dots tail w ∙ ap (λ z. dots ++ z) i ∙ sym (append_assoc dots (p ++ c ∷ []) y)) stops long, near)
+        where
+          near : place ≤ length (dots ++ p)
+          near = by dots tail none stops
+            where
+              by : (ds t : List ℕ) → (HasCode goes_on_label t → ⊥) → StopsBehindLabel r (ds ++ t) place → place ≤ length (ds ++ p)
+              by [] [] n k = absurd k
+              by [] (b ∷ t) n (inl k) = omega (arith, k.2)
+              by [] (b ∷ t) n (inr k) = absurd (n (46, refl, (t, ap (λ z. z ∷ t) k.0 ∙ ap (λ z. z ++ t) (sym (encode_ascii 46 (lit< tt))))))
+              by (d ∷ ds) t n (inl k) = omega (arith, k.2)
+              by (d ∷ ds) t n (inr k) = omega (arith, k.2)
+
+          long : place < length (dots ++ (p ++ c ∷ []))
+          long = omega (arith, near, length-append dots p, length-append dots (p ++ c ∷ []), length-append p (c ∷ []))
+
+      breaks_at : (p : List ℕ) (c : ℕ) (y w : List ℕ) → tail ++ w ≡ (p ++ c ∷ []) ++ y → Goes p → Ends goes_on_label in_label (p ++ c ∷ []) → Breaks s (95 ∷ 58 ∷ (encodes cs ++ (dots ++ p))) c (suc (suc (length (encodes cs))) + place)
+      unfolding Goes
+      breaks_at p c y w i (d, hd, n, (back, e)) ends = let k = reaches_tail p c y w i in label_breaks dots p c place d back h hd n e ends k.0 k.1
+
+      pub label_unfinished : BeginsCode goes_on_label tail → BreaksAtEnd s (95 ∷ 58 ∷ (encodes cs ++ (dots ++ tail))) (suc (suc (length (encodes cs))) + place)
+      label_unfinished k = record { breaks = at_end; unfinished = unfinished }
+        where
+          at_end : (e : ℕ) → IsTrue (is_line_end e) → Breaks s (95 ∷ 58 ∷ (encodes cs ++ (dots ++ tail))) e (suc (suc (length (encodes cs))) + place)
+          at_end e m =
+              breaks_at tail e [] (e ∷ []) (sym (append-nil (tail ++ e ∷ []))) (goes_to tail [] (sym (append-nil tail)) k)
+              (record { not_begun = none_at_end goes_on_label in_label tail e m; not_had = none_before_end goes_on_label in_label tail e m none })
+
+          unfinished : (q : List Parts) → Left s (95 ∷ 58 ∷ (encodes cs ++ (dots ++ tail))) q → ⊥
+          unfinished q left =
+              let far = (at_end 10 refl).reaches [] (10 ∷ []) left.row (whole_at_line_end left.row 10 refl left.whole) (said_goes s left.row q left.says) (append-nil _ ∙ ap (λ z. z ++ 10 ∷ []) left.text_is) in
+              let z : ⊥ = omega (arith, far, ap length left.text_is, length-append (encodes cs) (dots ++ tail), stops_within (dots ++ tail) place stops) in
+              z
+
+      pub label_broken : (BeginsCode goes_on_label tail → ⊥) → BreaksInside s (95 ∷ 58 ∷ (encodes cs ++ (dots ++ tail))) (suc (suc (length (encodes cs))) + place)
+      label_broken n =
+          let (front, c, back, e, f, g) = code_turns goes_on_label in_label 97 refl tail n in
+          record {
+            front = 95 ∷ 58 ∷ (encodes cs ++ (dots ++ front));
+            byte = c;
+            back = back;
+            text_is = ap (λ z. 95 ∷ 58 ∷ z) (ap (λ z. encodes cs ++ (dots ++ z)) e ∙ ap (λ z. encodes cs ++ z) (sym (append_assoc dots front (c ∷ back))) ∙ sym (append_assoc (encodes cs) (dots ++ front) (c ∷ back)));
+            breaks =
+              breaks_at front c back [] (append-nil tail ∙ e ∙ sym (append_assoc front (c ∷ []) back)) (goes_to front (c ∷ back) e f)
+              (record { not_begun = g; not_had = λ (d, hd, (x, i)). none (d, hd, (x ++ back, e ∙ sym (append_assoc front (c ∷ []) back) ∙ ap (λ z. z ++ back) i ∙ append_assoc (encode d) x back)) });
+          }

@@ -1,8 +1,9 @@
 -- What the next byte of a line begins. Only private clauses cite this.
-use Rattle.std.specs.Prelude.{ℕ, Bool, true, false, ◌||◌, ◌==◌, List, [], ◌∷◌, if◌then◌else◌}
+use Rattle.std.specs.Prelude.{◌≡◌, ℕ, ◌⊎◌, Bool, true, false, ◌||◌, ◌==◌, List, [], ◌∷◌, Some, if◌then◌else◌, IsFalse}
+use Rattle.jl_model.specs.Parts.{Parts}
 use Rattle.jl_model.specs.LineTokens.{LineToken}
 use Rattle.jl_model.specs.LineTokens as tokens
-use Rattle.jl_nquads.specs.Spots.{Spot, begins, has_subject, has_predicate, has_string, has_carets, has_object, has_graph, has_dot, has_comment}
+use Rattle.jl_nquads.specs.Spots.{Spot, begins, has_subject, has_predicate, has_string, has_carets, has_object, has_graph, has_dot, has_comment, leads_to}
 use Rattle.jl_nquads.specs.declared.nexts.Next.{Next}
 use Rattle.jl_nquads.specs.declared.nexts.Next.TheVariants.{End, Blank, Iri, Label, Str, Carets, Tag, Dot, Comment, Other}
 
@@ -63,3 +64,12 @@ allows (has_graph s p o g) Dot = true
 allows (has_dot q) Blank = true
 allows (has_dot q) Comment = true
 allows s n = false
+
+-- a text stops behind a dot, or behind a label at once or behind a dot
+abbrev pub StopsBehindDot : Spot → List ℕ → Type 0
+StopsBehindDot s [] = ⊥
+StopsBehindDot s (b ∷ x) = (q : Parts) × (leads_to s tokens.dot ≡ Some (has_dot q)) × IsFalse (allows (has_dot q) (opened_by b))
+
+abbrev pub StopsBehindLabel : Spot → List ℕ → ℕ → Type 0
+StopsBehindLabel s [] place = ⊥
+StopsBehindLabel s (b ∷ x) place = ((b ≡ 95 → ⊥) × IsFalse (allows s (opened_by b)) × (place ≡ 0)) ⊎ ((b ≡ 46) × StopsBehindDot s x × (place ≡ 1))
