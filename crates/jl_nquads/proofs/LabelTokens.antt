@@ -23,7 +23,7 @@ use Rattle.jl_nquads.proofs.Stops.{opening_byte, allowed, none_follows, other_st
 use Rattle.jl_nquads.proofs.Texts.{head_is, tail_is, fronts_of}
 use Rattle.jl_nquads.proofs.TokenBreaks.{Opens, Fronts, NoneIn, NoToken, none_in, breaks_within, token_unfinished}
 
-abbrev IsLabel : LineToken → Type 0
+abbrev pub IsLabel : LineToken → Type 0
 IsLabel t = (cs : List ℕ) × (t ≡ tokens.label cs)
 
 label_of : (u : LineToken) (x y : List ℕ) → IsTrue (is_token u) → 95 ∷ x ≡ token_bytes u ++ y → IsLabel u
@@ -33,7 +33,7 @@ label_of u x y h e = only_label u (opens u 95 y x (lit< tt) h e)
 abbrev pub LeadsLabel : Spot → Type 0
 LeadsLabel s = (cs : List ℕ) → (r : Spot) × (leads_to s (tokens.label cs) ≡ Some r)
 
-label_kind : (s : Spot) → LeadsLabel s → Opens s 95 IsLabel
+pub label_kind : (s : Spot) → LeadsLabel s → Opens s 95 IsLabel
 label_kind s lead = record { kind_of = λ t r x y h l e. label_of t x y h e; leads = λ t k. let l = lead k.0 in (l.0, ap (leads_to s) k.1 ∙ l.1) }
 
 -- ---- what follows where a label might go on

@@ -21,3 +21,6 @@ pub mod Codes
 pub mod Comments
 pub mod LabelBytes
 pub mod LabelTokens
+pub mod LabelStarts
+pub mod FramedKinds
+pub mod SaidLines
