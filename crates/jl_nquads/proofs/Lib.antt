@@ -24,3 +24,4 @@ pub mod LabelTokens
 pub mod LabelStarts
 pub mod FramedKinds
 pub mod SaidLines
+pub mod Documents

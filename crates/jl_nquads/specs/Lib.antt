@@ -7,3 +7,4 @@ pub mod Spots
 pub mod Nexts
 pub mod IriFronts
 pub mod CodePoints
+pub mod EndedLines
