@@ -40,7 +40,7 @@ row_then (t ∷ []) e x y h = row_from t [] (e ∷ y) (head_is_token t [] (e ∷
 row_then (t ∷ u ∷ xs) e x y h =
     row_from t (u ∷ xs) (e ∷ y) (head_is_token t (u ∷ xs) (e ∷ x) h) (ends_before_next t u xs (e ∷ x) (e ∷ y) (head_ends t (u ∷ xs) (e ∷ x) h)) (row_then (u ∷ xs) e x y (tail_is_row t (u ∷ xs) (e ∷ x) h))
 
-row_alone : (xs : List LineToken) (x : List ℕ) → IsTrue (is_row xs x) → IsTrue (is_row xs [])
+pub row_alone : (xs : List LineToken) (x : List ℕ) → IsTrue (is_row xs x) → IsTrue (is_row xs [])
 row_alone [] x h = refl
 row_alone (t ∷ []) x h = row_from t [] [] (head_is_token t [] x h) (ends_at_end t) refl
 row_alone (t ∷ u ∷ xs) x h = row_from t (u ∷ xs) [] (head_is_token t (u ∷ xs) x h) (ends_before_next t u xs x [] (head_ends t (u ∷ xs) x h)) (row_alone (u ∷ xs) x (tail_is_row t (u ∷ xs) x h))
@@ -92,7 +92,7 @@ line_goes line = said_goes begins (line_tokens line) (statement_quads line.state
 pub line_no_end : (line : Line) (rest : List ℕ) → IsTrue (is_row (line_tokens line) rest) → IsTrue (list_all not_end (bytes_of (line_tokens line)))
 line_no_end line rest w = no_end_in begins (line_tokens line) rest w (line_goes line)
 
-end_inside : (x : List ℕ) (e : ℕ) (y : List ℕ) → IsTrue (list_all not_end (x ++ e ∷ y)) → IsTrue (is_line_end e) → ⊥
+pub end_inside : (x : List ℕ) (e : ℕ) (y : List ℕ) → IsTrue (list_all not_end (x ++ e ∷ y)) → IsTrue (is_line_end e) → ⊥
 end_inside x e y h l =
     let k = and_parts (list_all not_end x) (list_all not_end (e ∷ y)) (sym (list_all-append not_end x (e ∷ y)) ∙ h) in
     false≢true (sym (ap (λ z. not z) l) ∙ (and_parts (not_end e) (list_all not_end y) k.1).0)
@@ -239,13 +239,13 @@ ended_row (l ∷ ls) x h =
     (row_from e (ended_tokens ls) x (head_is_token e (ended_tokens ls) [] k.1) refl (ended_row ls x (tail_is_row e (ended_tokens ls) [] k.1)))
 
 -- a row behind lines that have ended
-joined_row : (ls : List EndedLine) (row : List LineToken) (x : List ℕ) → IsTrue (is_row (ended_tokens ls) []) → IsTrue (is_row row x) → IsTrue (is_row (ended_tokens ls ++ row) x)
+pub joined_row : (ls : List EndedLine) (row : List LineToken) (x : List ℕ) → IsTrue (is_row (ended_tokens ls) []) → IsTrue (is_row row x) → IsTrue (is_row (ended_tokens ls ++ row) x)
 joined_row ls row x h k = rows_join (ended_tokens ls) row x (ended_row ls (bytes_of row ++ x) h) k
 
-joined_bytes : (ls : List EndedLine) (row : List LineToken) → bytes_of (ended_tokens ls ++ row) ≡ bytes_of (ended_tokens ls) ++ bytes_of row
+pub joined_bytes : (ls : List EndedLine) (row : List LineToken) → bytes_of (ended_tokens ls ++ row) ≡ bytes_of (ended_tokens ls) ++ bytes_of row
 joined_bytes ls row = flat_map-append token_bytes (ended_tokens ls) row
 
-joined_document : (ls : List EndedLine) (row : List LineToken) (line : Line) → row ≡ line_tokens line → ended_tokens ls ++ row ≡ document_tokens (before ls (last line))
+pub joined_document : (ls : List EndedLine) (row : List LineToken) (line : Line) → row ≡ line_tokens line → ended_tokens ls ++ row ≡ document_tokens (before ls (last line))
 joined_document ls row line e = ap (λ z. ended_tokens ls ++ z) e ∙ sym (before_tokens ls (last line))
 
 -- the quads of lines that have ended and of one that is the last

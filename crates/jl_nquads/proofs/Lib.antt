@@ -25,3 +25,4 @@ pub mod LabelStarts
 pub mod FramedKinds
 pub mod SaidLines
 pub mod Documents
+pub mod BadLines

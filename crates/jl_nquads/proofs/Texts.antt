@@ -18,6 +18,18 @@ fronts_of (c ∷ a) (d ∷ b) x y e =
       | inr (k, z, i, j) ↦ inr (k, z, ap (λ t. c ∷ t) i ∙ ap (λ m. m ∷ (b ++ k ∷ z)) h, j)
     ]
 
+-- of two fronts of one list one begins with the other
+pub lists_of : {A : Type 0} (a b x y : List A) → a ++ x ≡ b ++ y → ((z : List A) × (b ≡ a ++ z) × (x ≡ z ++ y)) ⊎ ((d : A) × (z : List A) × (a ≡ b ++ d ∷ z) × (y ≡ (d ∷ z) ++ x))
+lists_of [] b x y e = inl (b, refl, e)
+lists_of (c ∷ a) [] x y e = inr (c, a, refl, sym e)
+lists_of {A} (c ∷ a) (d ∷ b) x y e =
+    let h : c ≡ d = cc in
+    let t : a ++ x ≡ b ++ y = cc in
+    elim (lists_of a b x y t) [
+      | inl (z, i, j) ↦ inl (z, ap (λ t. d ∷ t) i ∙ ap (λ (k : A). k ∷ (a ++ z)) (sym h), j)
+      | inr (k, z, i, j) ↦ inr (k, z, ap (λ t. c ∷ t) i ∙ ap (λ (m : A). m ∷ (b ++ k ∷ z)) h, j)
+    ]
+
 -- fronts of one length are the same
 pub same_length : (a b x y : List ℕ) → length a ≡ length b → a ++ x ≡ b ++ y → (a ≡ b) × (x ≡ y)
 same_length [] [] x y l e = (refl, e)
