@@ -2,6 +2,7 @@
 use Rattle.std.proofs.Common.{◌≡◌, ℕ, zero, suc, ◌+◌, ◌<◌, ◌≤◌, ◌⊎◌, inl, inr, Bool, true, false, not, ◌&&◌, List, [], ◌∷◌, ◌++◌, length, Option, Some, None, IsTrue, IsFalse, append-nil, append_assoc, refl, sym, ap, ◌∙◌, subst, arith, length-append}
 use Rattle.std.proofs.lemmas.Bool.{and_parts, false≢true}
 use Rattle.std.proofs.lemmas.List.Concat.{flat_map-append}
+use Rattle.std.proofs.lemmas.List.Folds.{list_all-append}
 use Rattle.std.specs.List.{list_all}
 use Rattle.jl_model.specs.Parts.{Parts}
 use Rattle.jl_model.specs.LineTokens.{LineToken, token_bytes, is_token, is_row, bytes_of, is_line_end}
@@ -213,3 +214,50 @@ module _ (p : List ℕ) (c place : ℕ) (no_end : IsTrue (list_all not_end p)) (
               derived = append_assoc (ended_tokens h.lines) b.stands.row k.more ∙ joined_document h.lines (b.stands.row ++ k.more) l.line l.row_is;
             };
           }
+
+-- ---- what a reader answers
+
+-- the bytes have this bad line, and begin no lines of quads
+pub record IsBad (bytes : List ℕ) (place : ℕ) : Type 0 where
+  pub bad : BadLine bytes place
+  pub begins_none : BeginsLines bytes → ⊥
+
+bad_from : (done p r : List ℕ) (c place : ℕ) → BreaksLine (done ++ p) c place → IsBad (done ++ (p ++ c ∷ r)) place
+bad_from done p r c place b = record {
+  bad = inl (done ++ p, c, r, sym (append_assoc done p (c ∷ r)), b);
+  begins_none = λ (more, quads, q). b.breaks (r ++ more, quads, subst (λ z. QuadsOf z quads) (regrouped more) q);
+}
+  where
+    regrouped : (more : List ℕ) → (done ++ (p ++ c ∷ r)) ++ more ≡ ((done ++ p) ++ c ∷ []) ++ (r ++ more)
+    regrouped more = ap (λ z. z ++ more) (sym (append_assoc done p (c ∷ r)) ∙ sym (append_assoc (done ++ p) (c ∷ []) r)) ∙ append_assoc ((done ++ p) ++ c ∷ []) r more
+
+-- a line breaks inside
+pub bad_inside : (done part r : List ℕ) (given : List Parts) (place : ℕ) → HasEnded done given → IsTrue (list_all not_end part) → BreaksInside begins part place → IsBad (done ++ (part ++ r)) (length done + place)
+bad_inside done part r given place h n b =
+    let whole : IsTrue (list_all not_end (b.front ++ b.byte ∷ b.back)) = subst (λ z. IsTrue (list_all not_end z)) b.text_is n in
+    let front = (and_parts (list_all not_end b.front) (list_all not_end (b.byte ∷ b.back)) (sym (list_all-append not_end b.front (b.byte ∷ b.back)) ∙ whole)).0 in
+    let e : part ++ r ≡ b.front ++ b.byte ∷ (b.back ++ r) = ap (λ z. z ++ r) b.text_is ∙ append_assoc b.front (b.byte ∷ b.back) r in
+    subst (λ z. IsBad (done ++ z) (length done + place)) (sym e)
+    (bad_from done b.front (b.back ++ r) b.byte (length done + place) (breaks_behind b.front b.byte place front b.breaks (λ l. absurd (end_inside b.front b.byte b.back whole l)) done given h))
+
+-- a line breaks where it ends
+pub bad_at_end : (done part r : List ℕ) (e : ℕ) (given : List Parts) (place : ℕ) → HasEnded done given → IsTrue (list_all not_end part) → IsTrue (is_line_end e) → BreaksAtEnd begins part place → IsBad (done ++ (part ++ e ∷ r)) (length done + place)
+bad_at_end done part r e given place h n l b = bad_from done part r e (length done + place) (breaks_behind part e place n (b.breaks e l) (λ m q. b.unfinished q) done given h)
+
+-- a line is unfinished where all ends
+pub bad_unfinished : (done part : List ℕ) (given : List Parts) (place : ℕ) → HasEnded done given → IsTrue (list_all not_end part) → BreaksAtEnd begins part place → BadLine (done ++ part) (length (done ++ part)) × ((quads : List Parts) → QuadsOf (done ++ part) quads → ⊥)
+bad_unfinished done part given place h n b = (inr (record { begins = begins_behind done part given h (b.breaks 10 refl).begins; unfinished = none; place_is = refl }), none)
+  where
+    last_line : (d : Document) (row : List LineToken) → row ≡ document_tokens d → IsTrue (is_row row []) → part ≡ bytes_of row → ⊥
+    last_line (last line) row i w s = b.unfinished (statement_quads line.statement) (subst (λ z. Left begins z (statement_quads line.statement)) (sym (s ∙ ap bytes_of i)) (left_of line [] (subst (λ z. IsTrue (is_row z [])) i w)))
+    last_line (ended line e d) row i w s =
+        let t = tokens.line_end e in
+        let v = rows_part (line_tokens line) (t ∷ document_tokens d) [] (subst (λ z. IsTrue (is_row z [])) i w) in
+        end_inside (bytes_of (line_tokens line)) e (bytes_of (document_tokens d)) (subst (λ z. IsTrue (list_all not_end z)) (s ∙ ap bytes_of i ∙ flat_map-append token_bytes (line_tokens line) (t ∷ document_tokens d)) n) (head_is_token t (document_tokens d) [] v.1)
+
+    none : (quads : List Parts) → QuadsOf (done ++ part) quads → ⊥
+    none quads q = let k = quads_behind h.lines part quads h.whole (subst (λ z. QuadsOf z quads) (ap (λ z. z ++ part) h.spelled) q) in last_line k.1.document k.1.row k.1.of_grammar.derived k.1.of_grammar.whole k.1.spelled
+
+-- bytes that have a bad line that goes on have no quads
+pub bad_has_none : (bytes : List ℕ) (place : ℕ) (quads : List Parts) → IsBad bytes place → QuadsOf bytes quads → ⊥
+bad_has_none bytes place quads b q = b.begins_none ([], quads, subst (λ z. QuadsOf z quads) (sym (append-nil bytes)) q)
