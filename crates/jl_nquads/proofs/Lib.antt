@@ -26,3 +26,4 @@ pub mod FramedKinds
 pub mod SaidLines
 pub mod Documents
 pub mod BadLines
+pub mod CodeNumbers

@@ -8,3 +8,4 @@ pub mod Nexts
 pub mod IriFronts
 pub mod CodePoints
 pub mod EndedLines
+pub mod EscapesRead
