@@ -27,3 +27,4 @@ pub mod SaidLines
 pub mod Documents
 pub mod BadLines
 pub mod CodeNumbers
+pub mod EscapesAt
