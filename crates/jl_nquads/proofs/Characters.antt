@@ -51,7 +51,7 @@ same_spelling (eight ds) (four es) x y h k e = absurd (let f = head_is 85 117 (d
 same_spelling (eight ds) (eight es) x y h k e =
     let i = same_length ds es x y (digits_long 8 ds h ∙ sym (digits_long 8 es k)) (tail_is 85 85 (ds ++ x) (es ++ y) (tail_is 92 92 (85 ∷ (ds ++ x)) (85 ∷ (es ++ y)) e)) in (ap eight i.0, i.1)
 
-has_first : (w : Written) → 0 < length (spelling w)
+pub has_first : (w : Written) → 0 < length (spelling w)
 has_first (itself c) = subst (λ n. 0 < n) (sym (length-encode c)) (let z = (len_utf8_bounds c).0 in omega (arith, z))
 has_first (letter c) = omega arith
 has_first (four ds) = omega arith

@@ -15,7 +15,7 @@ DigitsAre : ℕ → List ℕ → Option ℕ → Type 0
 DigitsAre n t None = (ds back : List ℕ) → IsTrue (is_uchar n ds) → t ≡ ds ++ back → ⊥
 DigitsAre n t (Some v) = IsTrue (is_uchar n (take n t)) × (n ≤ length t) × (v ≡ hex_number 0 (take n t))
 
-uchar_parts : (n : ℕ) (ds : List ℕ) → IsTrue (is_uchar n ds) → (length ds ≡ n) × IsTrue (list_all is_hex_digit ds) × IsTrue (scalar (hex_number 0 ds))
+pub uchar_parts : (n : ℕ) (ds : List ℕ) → IsTrue (is_uchar n ds) → (length ds ≡ n) × IsTrue (list_all is_hex_digit ds) × IsTrue (scalar (hex_number 0 ds))
 uchar_parts n ds h =
     let p = and_parts (length ds == n) (list_all is_hex_digit ds && scalar (hex_number 0 ds)) h in
     let q = and_parts (list_all is_hex_digit ds) (scalar (hex_number 0 ds)) p.1 in

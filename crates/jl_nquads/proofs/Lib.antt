@@ -28,3 +28,5 @@ pub mod Documents
 pub mod BadLines
 pub mod CodeNumbers
 pub mod EscapesAt
+pub mod PlainFronts
+pub mod CharacterRuns

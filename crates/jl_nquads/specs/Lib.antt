@@ -9,3 +9,4 @@ pub mod IriFronts
 pub mod CodePoints
 pub mod EndedLines
 pub mod EscapesRead
+pub mod CharactersRead

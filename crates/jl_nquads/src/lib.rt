@@ -1,6 +1,7 @@
 //! Lines of N-Quads: the line of a quad, and an out of quads that puts their lines.
 #![tactic(auto)]
 
+mod framed;
 mod escaped;
 mod escapes;
 mod forms;
@@ -8,6 +9,7 @@ mod halts;
 mod line_outs;
 mod lines;
 mod nexts;
+mod rests;
 #[cfg(test)]
 mod tests;
 
