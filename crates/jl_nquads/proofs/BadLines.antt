@@ -24,8 +24,7 @@ begins_behind done p given h b =
     let l = line_of (b.row ++ k.more) k.quads k.says in
     let row = ended_tokens h.lines ++ (b.row ++ k.more) in
     let d = before h.lines (last l.line) in
-    let spelled : (done ++ p) ++ (b.more ++ bytes_of k.more) ≡ bytes_of row = append_assoc done p (b.more ++ bytes_of k.more) ∙ ap (λ z. done ++ z) (sym (append_assoc p b.more (bytes_of k.more)) ∙ ap (λ z. z ++ bytes_of k.more) b.text_is ∙ sym (flat_map-append token_bytes b.row k.more)) ∙ ap (λ z. z ++ bytes_of (b.row ++ k.more)) h.spelled ∙ sym (joined_bytes h.lines (b.row ++ k.more)) in
-    (
+    let spelled : (done ++ p) ++ (b.more ++ bytes_of k.more) ≡ bytes_of row = append_assoc done p (b.more ++ bytes_of k.more) ∙ ap (λ z. done ++ z) (sym (append_assoc p b.more (bytes_of k.more)) ∙ ap (λ z. z ++ bytes_of k.more) b.text_is ∙ sym (flat_map-append token_bytes b.row k.more)) ∙ ap (λ z. z ++ bytes_of (b.row ++ k.more)) h.spelled ∙ sym (joined_bytes h.lines (b.row ++ k.more)) in (
       b.more ++ bytes_of k.more,
       document_quads d,
       record { row = row; document = d; spelled = spelled; of_grammar = record { whole = joined_row h.lines (b.row ++ k.more) [] h.whole k.whole; derived = joined_document h.lines (b.row ++ k.more) l.line l.row_is }; quads_are = refl },

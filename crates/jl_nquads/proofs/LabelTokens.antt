@@ -378,6 +378,6 @@ module _ (s : Spot) (cs : List ℕ) (label : IsTrue (is_label cs)) where
             back = back;
             text_is = ap (λ z. 95 ∷ 58 ∷ z) (ap (λ z. encodes cs ++ (dots ++ z)) e ∙ ap (λ z. encodes cs ++ z) (sym (append_assoc dots front (c ∷ back))) ∙ sym (append_assoc (encodes cs) (dots ++ front) (c ∷ back)));
             breaks =
-              breaks_at front c back [] (append-nil tail ∙ e ∙ sym (append_assoc front (c ∷ []) back)) (goes_to front (c ∷ back) e f)
-              (record { not_begun = g; not_had = λ (d, hd, (x, i)). none (d, hd, (x ++ back, e ∙ sym (append_assoc front (c ∷ []) back) ∙ ap (λ z. z ++ back) i ∙ append_assoc (encode d) x back)) });
+                breaks_at front c back [] (append-nil tail ∙ e ∙ sym (append_assoc front (c ∷ []) back)) (goes_to front (c ∷ back) e f)
+                (record { not_begun = g; not_had = λ (d, hd, (x, i)). none (d, hd, (x ++ back, e ∙ sym (append_assoc front (c ∷ []) back) ∙ ap (λ z. z ++ back) i ∙ append_assoc (encode d) x back)) });
           }

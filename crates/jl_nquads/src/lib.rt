@@ -1,10 +1,10 @@
 //! Lines of N-Quads: the line of a quad, and an out of quads that puts their lines.
 #![tactic(auto)]
 
-mod framed;
 mod escaped;
 mod escapes;
 mod forms;
+mod framed;
 mod halts;
 mod line_outs;
 mod lines;
