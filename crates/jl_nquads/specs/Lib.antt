@@ -2,3 +2,10 @@ pub mod Endings
 pub mod Escapes
 pub mod Forms
 pub mod LineOuts
+pub mod Spots
+pub mod Nexts
+pub mod IriFronts
+pub mod CodePoints
+pub mod EndedLines
+pub mod EscapesRead
+pub mod CharactersRead

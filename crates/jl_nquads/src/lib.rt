@@ -1,10 +1,15 @@
 //! Lines of N-Quads: the line of a quad, and an out of quads that puts their lines.
 #![tactic(auto)]
 
+mod escaped;
 mod escapes;
 mod forms;
+mod framed;
+mod halts;
 mod line_outs;
 mod lines;
+mod nexts;
+mod rests;
 #[cfg(test)]
 mod tests;
 
