@@ -107,8 +107,8 @@ plain-node-fine hanging adds at naming own h a o f =
     let n = term_of_node at (named_by adds naming) in
     let t : NodeOrNone n = node-term at (named_by adds naming) in
     let x = hangs-fine hanging at n h f (node-or n t) in (
-      both-formed (hangs hanging at n h).0 (added adds n h.scope ++ own n h.scope) x.0
-          (both-formed (added adds n h.scope) (own n h.scope) (added-formed adds n h.scope a t f.1) (o n h.scope t f.1)),
+      both-formed (own n h.scope) (added adds n h.scope ++ (hangs hanging at n h).0) (o n h.scope t f.1)
+          (both-formed (added adds n h.scope) (hangs hanging at n h).0 (added-formed adds n h.scope a t f.1) x.0),
       x.1,
     )
 

@@ -93,11 +93,11 @@ node-count : (f : Parts → ℕ) (s : Settings) (w : Where) (i : Inside) (at : �
     ≡ tally f (formed (node_says (around_at w) (hanging_at w) at (naming i.final ms) (λ n scope. members_say s i own_member n scope ms) (head_at w)).0)
 node-count f s w i at ms subject e =
     ap (λ x. tally f (formed (members_say s i own_member x (scope_at w) ms)) + tally f (hang_on (node_at w) x)) e
-    ∙ (swapped _ _ _ (formed-count f (hangs (hanging_at w) at (term_of_node at (naming i.final ms)) (head_at w)).0 (members_say s i own_member (term_of_node at (naming i.final ms)) (scope_at w) ms))
+    ∙ (swapped _ _ _ (formed-count f (members_say s i own_member (term_of_node at (naming i.final ms)) (scope_at w) ms) (hangs (hanging_at w) at (term_of_node at (naming i.final ms)) (head_at w)).0)
     (ap (tally f) (hangs-so w at (term_of_node at (naming i.final ms))))
     ∙ sym (ap (λ x. tally f (formed x.0)) (node-so w at i ms (λ n scope. members_say s i own_member n scope ms))))
   where
-    swapped : (a b h : ℕ) {t : ℕ} → t ≡ b + a → h ≡ b → a + h ≡ t
+    swapped : (a b h : ℕ) {t : ℕ} → t ≡ a + b → h ≡ b → a + h ≡ t
     swapped a b h e g = omega (arith, e, g)
 
 false-not-true : (b : Bool) (X : Type 0) → b ≡ false → b ≡ true → X

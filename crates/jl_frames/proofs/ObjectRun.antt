@@ -126,7 +126,7 @@ drops-so (within n iri name) = refl
 
 pub node-so : (w : Where) (at : ℕ) (i : Inside) (ms : Members) (own : Own) →
     node_says (around_at w) (hanging_at w) at (naming i.final ms) own (head_at w)
-    ≡ ((hangs (hanging_at w) at (term_of_node at (naming i.final ms)) (head_at w)).0 ++ own (term_of_node at (naming i.final ms)) (scope_at w), (hangs (hanging_at w) at (term_of_node at (naming i.final ms)) (head_at w)).1)
+    ≡ (own (term_of_node at (naming i.final ms)) (scope_at w) ++ (hangs (hanging_at w) at (term_of_node at (naming i.final ms)) (head_at w)).0, (hangs (hanging_at w) at (term_of_node at (naming i.final ms)) (head_at w)).1)
 node-so (outside true) at i ms own = refl
 node-so (outside false) at i ms own = refl
 node-so (within n iri name) at i ms own = refl

@@ -66,12 +66,7 @@ given-goes f at v n iri name k more d =
 valued-goes : (f : Parts → ℕ) (c : Context) (at : ℕ) (v : values.Valued) (n : Node) (iri name : Text) (k : List Open) (more : List Fact) → in_dropped k ≡ false →
     faults.valued_fault at v ≡ [] →
     Goes f (scalar_says ordinary linked at v (head_at (within n iri name))) (valued_fact at v ∷ more) (within n iri name) k more true
-valued-goes f c at (values.reference text) n iri name k more d e = record {
-  leads =
-      leads-as f _ _ _ _ _ _ (sym (ap (λ r. tally f (formed r)) (append-nil (link (head_at (within n iri name)) (term_of_text text)))))
-      (given-goes f at (valued.Reference text) n iri name k more d);
-  head = refl;
-}
+valued-goes f c at (values.reference text) n iri name k more d e = record { leads = given-goes f at (valued.Reference text) n iri name k more d; head = refl }
 valued-goes f c at (values.literal lit) n iri name k more d e = record { leads = given-goes f at (valued.Literal lit) n iri name k more d; head = refl }
 valued-goes f c at values.left_out n iri name k more d e = record { leads = given-goes f at valued.LeftOut n iri name k more d; head = refl }
 valued-goes f c at (values.refused code) n iri name k more d e = absurd cc

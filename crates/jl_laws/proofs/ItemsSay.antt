@@ -11,7 +11,7 @@ use Rattle.jl_defs.specs.NodeMap.{Entry, entry, type_item, items_entries, node_m
 use Rattle.jl_defs.specs.Dataset.{Head, link, cell_at, cell_head, is_whole, rdf_first, rdf_rest, rdf_nil, term_of_value, item_quads, list_quads, entry_quads}
 use Rattle.jl_defs.specs.Expansion.{in_graph}
 use Rattle.jl_defs.specs.Sets.{tally}
-use Rattle.jl_laws.specs.Spots.{Hanging, linked, listed, loose, Around, document, ordinary, graphs, map_entry, graph_map_entry, stand_of, Said, nothing, then_says, with_quads, hangs, head, in_scope, added, named_by, Own, says_nothing, plain_node, graph_node, node_says, no_content, value_says, scalar_says, Content, loose_content, ended, list_hangs, plain_list, list_says}
+use Rattle.jl_laws.specs.Spots.{Hanging, linked, listed, loose, Around, document, ordinary, graphs, map_entry, graph_map_entry, stand_of, Said, nothing, behind, then_says, with_quads, hangs, head, in_scope, added, named_by, Own, says_nothing, plain_node, graph_node, node_says, no_content, value_says, scalar_says, Content, loose_content, ended, list_hangs, plain_list, list_says}
 use Rattle.jl_laws.proofs.Counting.{tally-append}
 
 -- the quads of entries, counted
@@ -251,12 +251,20 @@ node-itself loose adds at naming es h = refl
 quads-alike : (f : Parts → ℕ) (x y : Said) (xs ys : List Parts) → x ≡ y → tally f xs ≡ tally f ys → Alike f (with_quads x xs) (with_quads y ys)
 quads-alike f x y xs ys e l = (omega (arith, l, tally-append f x.0 xs, tally-append f y.0 ys, ap (λ s. tally f s.0) e), ap (λ s. s.1) e)
 
+-- the quad that links a node may stand before what the node says or after it
+link-last : (f : Parts → ℕ) (own adds : List Parts) (z : Said) → Alike f (behind own (behind adds z)) (with_quads z (adds ++ own))
+link-last f own adds z =
+    (omega (arith, tally-append f own (adds ++ z.0), tally-append f adds z.0, tally-append f z.0 (adds ++ own), tally-append f adds own), refl)
+
 pub plain-node : (f : Parts → ℕ) (hanging : Hanging) (adds : Addition) (at : ℕ) (naming : Naming) (own : Own) (es : NodeEntries) (h : Head) → OwnAre f own es →
     Alike f (plain_node hanging adds at naming own h) (items_say hanging (one (with_addition adds (node_at at naming es))) h)
 plain-node f hanging adds at naming own es h e =
     let x = with_addition adds (node_at at naming es) in
+    let n = term_of_node at (named_by adds naming) in
     alike-trans f (plain_node hanging adds at naming own h) (item_says hanging x h) (items_say hanging (one x) h)
-    (quads-alike f _ _ _ _ (node-itself hanging adds at naming es h) (node-added f adds at naming own es h e))
+    (alike-trans f (plain_node hanging adds at naming own h) (with_quads (hangs hanging at n h) (added adds n h.scope ++ own n h.scope)) (item_says hanging x h)
+    (link-last f (own n h.scope) (added adds n h.scope) (hangs hanging at n h))
+    (quads-alike f _ _ _ _ (node-itself hanging adds at naming es h) (node-added f adds at naming own es h e)))
     (one-says f hanging x h)
 
 -- an implicit graph round an item

@@ -124,8 +124,9 @@ Own = Option Term → GraphScope → List Parts
 abbrev pub says_nothing : Own
 says_nothing s scope = []
 
+-- a node hangs where it closes: what it says comes first, then what a map's key adds, and its link comes last
 abbrev pub node_hangs : Hanging → Addition → ℕ → Option Term → Own → Head → Said
-node_hangs hanging adds at s own h = with_quads (hangs hanging at s h) (added adds s h.scope ++ own s h.scope)
+node_hangs hanging adds at s own h = behind (own s h.scope) (behind (added adds s h.scope) (hangs hanging at s h))
 
 abbrev pub plain_node : Hanging → Addition → ℕ → Naming → Own → Head → Said
 plain_node hanging adds at naming own h = node_hangs hanging adds at (term_of_node at (named_by adds naming)) own h
