@@ -1,0 +1,15 @@
+pub mod Phases
+pub mod Stage
+pub mod Frames
+pub mod Steps
+pub mod Scalars
+pub mod Opening
+pub mod Keys
+pub mod Ending
+pub mod Feeding
+pub mod Events
+pub mod States
+pub mod Running
+pub mod Laws
+pub mod Closed
+pub mod Due
