@@ -1,12 +1,13 @@
 -- What one byte and the end say, by the laws of the stack.
-use Rattle.std.proofs.Common.{ℕ, ◌+◌, ◌-◌, ◌<◌, ◌≤◌, ◌≡◌, refl, sym, ◌∙◌, ap, subst, arith, Bool, false, List, [], ◌∷◌, ◌++◌, length, take, drop, get_or, Option, Ok, inl, inr, append-nil, length-append}
-use Rattle.std.proofs.lemmas.List.{take_all, length-drop}
+use Rattle.std.proofs.Common.{ℕ, ◌+◌, ◌-◌, ◌<◌, ◌≤◌, ◌≡◌, refl, sym, ◌∙◌, ap, subst, arith, Bool, false, List, [], ◌∷◌, ◌++◌, length, take, drop, get_or, Option, Ok, inl, inr, append_assoc, append-nil, length-append}
+use Rattle.std.proofs.lemmas.List.{take_all, take-append-drop, length-drop}
 use Rattle.std.specs.Prelude.{IfSome}
 use Rattle.std.specs.Option.{option_to_list}
 use Rattle.jl_model.specs.Parts.{Parts}
 use Rattle.jl_model.specs.declared.tokens.Token.{Token}
 use Rattle.jl_token.specs.Lexed as lexed
 use Rattle.jl_token.specs.Lexed.{StopsAt, StopsAtEnd, Ends, IsNumberToken}
+use Rattle.jl_token.specs.Runs.{Runs}
 use Rattle.jl_token.specs.declared.states.LexState.{LexState}
 use Rattle.jl_token.specs.declared.steps.LexStop.{LexStop}
 use Rattle.jl_token.specs.declared.steps.LexStop.TheVariants as lexing
@@ -16,7 +17,7 @@ use Rattle.jl_frames.specs.Facts.{Fact}
 use Rattle.jl_frames.specs.Streamed.{tell}
 use Rattle.jl_frames.specs.declared.states.StackState.{StackState}
 use Rattle.jl_engine.specs.Saying.{AreFirst, Says, SaysSome, StopsSaying}
-use Rattle.jl_engine.specs.Standing.{Stands, AreSure, WerePut, Fed, Cause, Stopped, Finished, EndCause, StoppedAtEnd}
+use Rattle.jl_engine.specs.Standing.{Stands, AreSure, AreLeft, WerePut, Fed, Cause, Stopped, Finished, EndCause, StoppedAtEnd}
 use Rattle.jl_engine.specs.Stops.{of_lexer}
 use Rattle.jl_engine.specs.Translation.{events_step}
 use Rattle.jl_engine.specs.TreeEvents.{events_of}
@@ -25,7 +26,7 @@ use Rattle.jl_engine.specs.declared.stops.Stop.{Stop}
 use Rattle.jl_engine.specs.declared.stops.Stop.TheVariants.{Refused, OutFault, NoMemory}
 use Rattle.jl_engine.proofs.Consequences.{sure, sure-longer, grows}
 use Rattle.jl_engine.proofs.Endings.{end-quiet}
-use Rattle.jl_engine.proofs.Feeding.{put-none, run-stands, byte-refused, nothing-left, byte-stopped, facts-refused, puts-stopped, fed-by, end-refused, end-stopped, end-facts-refused, ended}
+use Rattle.jl_engine.proofs.Feeding.{run-stands, byte-refused, stopped-wide, nothing-left, byte-stopped, facts-refused, puts-stopped, fed-by, end-refused, end-stopped, end-facts-refused, ended}
 use Rattle.jl_frames.proofs.StreamRun.{stream-says, stream-refuses}
 
 -- the facts that tokens tell an engine
@@ -134,36 +135,44 @@ end-unsaid s bytes quads token tokens stop old told tells selects h ends number 
     none front (inr (back, stack, e)) =
         nothing-first front back (end-quiet s bytes quads token (front ++ back) old stack h ends number (subst (λ ts. ◌≡◌ (tell (facts_at old ts) old.stack) (Ok (front ++ back, stack))) same e))
 
--- ---- runs
+-- ---- bytes that complete no token, and then others
 
--- no byte was read for want of memory
-pub nothing-read : (s : Settings) (bytes : List ℕ) (quads : List Parts) (piece : List ℕ) (old new : EngineState) (told : List Parts → Type 0) (selects : Parts → Bool) → Stands s bytes quads old → new.bytes ≡ old.bytes →
-    Stopped s bytes quads piece NoMemory new told told selects
-nothing-read s bytes quads piece old new told selects h same =
+-- an engine whose lexer has read them
+abbrev pub run-engine : EngineState → LexState → List ℕ → EngineState
+run-engine old lexer run = record old { lexer = lexer; bytes = old.bytes + length run }
+
+pub run-before : (s : Settings) (bytes : List ℕ) (quads : List Parts) (run : List ℕ) (old : EngineState) (lexer : LexState) → Stands s bytes quads old → Runs old.lexer lexer run → lexer.ended ≡ old.lexer.ended →
+    Stands s (bytes ++ run) quads (run-engine old lexer run)
+run-before s bytes quads run old lexer h runs live = run-stands s bytes quads run old (run-engine old lexer run) h runs (live ∙ h.live) refl refl refl refl h.goes_on h.going
+
+pub run-fed : (s : Settings) (bytes : List ℕ) (quads : List Parts) (run piece : List ℕ) (e : EngineState) (told tells : List Parts → Type 0) (selects : Parts → Bool) →
+    Fed s (bytes ++ run) quads piece e told tells selects → Fed s bytes quads (run ++ piece) e told tells selects
+run-fed s bytes quads run piece e told tells selects f = record {
+  more = f.more;
+  stands = subst (λ b. Stands s b (quads ++ f.more) e) (append_assoc bytes run piece) f.stands;
+  put = f.put;
+}
+
+pub run-stopped : (s : Settings) (bytes : List ℕ) (quads : List Parts) (run piece : List ℕ) (stop : Stop) (e : EngineState) (told tells : List Parts → Type 0) (selects : Parts → Bool) →
+    Stopped s (bytes ++ run) quads piece stop e told tells selects → Stopped s bytes quads (run ++ piece) stop e told tells selects
+run-stopped s bytes quads run piece stop e told tells selects b =
+    let front : (bytes ++ run) ++ b.front ≡ bytes ++ (run ++ b.front) = append_assoc bytes run b.front in
     record {
-      front = [];
-      back = piece;
-      piece_is = refl;
-      count = same ∙ (h.count ∙ ap length (sym (append-nil bytes)));
-      more = [];
-      left = subst (λ b. AreSure s b (quads ++ [])) (sym (append-nil bytes)) (subst (λ q. AreSure s bytes q) (sym (append-nil quads)) (sure-now s bytes quads old h));
-      put = put-none told told selects (λ all t. t);
-      cause = tt;
+      front = run ++ b.front;
+      back = b.back;
+      piece_is = ap (λ x. run ++ x) b.piece_is ∙ sym (append_assoc run b.front b.back);
+      count = b.count ∙ ap length front;
+      more = b.more;
+      left = subst (λ x. AreLeft s x (quads ++ b.more) stop) front b.left;
+      put = b.put;
+      cause = subst (λ x. Cause s x stop) front b.cause;
     }
 
--- an empty run
-pub run-nothing : (s : Settings) (bytes : List ℕ) (quads : List Parts) (piece : List ℕ) (n : ℕ) (old new : EngineState) → n ≤ 0 → Stands s bytes quads old →
-    ((place : ℕ) (p : List ℕ) (given : List Token) → lexed.Stands place p given old.lexer → lexed.Stands place (p ++ take n piece) given new.lexer) →
-    new.lexer.ended ≡ false → new.context ≡ old.context → new.cursor ≡ old.cursor → new.stack ≡ old.stack → new.bytes ≡ old.bytes → new.stopped ≡ old.stopped → new.ended ≡ old.ended → Stands s bytes quads new
-run-nothing s bytes quads piece n old new none h runs live context cursor stack count goes going =
-    let zero_is : n ≡ 0 = omega (arith, none) in
-    let nothing : bytes ++ take n piece ≡ bytes = ap (λ k. bytes ++ take k piece) zero_is ∙ append-nil bytes in
-    let short : length (take n piece) ≡ 0 = ap (λ k. length (take k piece)) zero_is in
-    subst (λ b. Stands s b quads new) nothing (run-stands s bytes quads (take n piece) old new h runs live context cursor stack (omega (arith, count, short)) (goes ∙ h.goes_on) (going ∙ h.going))
-
-pub take_one : (piece : List ℕ) → 0 < length piece → take 1 piece ≡ get_or piece 0 0 ∷ []
-take_one [] h = absurd (omega (arith, h))
-take_one (c ∷ piece) h = refl
+-- the front of a piece stopped the reading
+pub front-stopped : (s : Settings) (bytes : List ℕ) (quads : List Parts) (n : ℕ) (piece : List ℕ) (stop : Stop) (e : EngineState) (told tells : List Parts → Type 0) (selects : Parts → Bool) →
+    Stopped s bytes quads (take n piece) stop e told tells selects → Stopped s bytes quads piece stop e told tells selects
+front-stopped s bytes quads n piece stop e told tells selects b =
+    subst (λ p. Stopped s bytes quads p stop e told tells selects) (take-append-drop n piece) (stopped-wide s bytes quads (take n piece) (drop n piece) stop e told tells selects b)
 
 -- the rest of a piece, as a slice of it
 pub rest_is : (piece : List ℕ) (at : ℕ) → take (length piece - at) (drop at piece) ≡ drop at piece

@@ -166,12 +166,6 @@ stopped-wide s bytes quads ys zs stop e told tells selects b = record {
   cause = b.cause;
 }
 
--- the first byte of the piece stopped the reading
-pub first-stopped : (s : Settings) (bytes : List ℕ) (quads : List Parts) (piece : List ℕ) (stop : Stop) (e : EngineState) (told tells : List Parts → Type 0) (selects : Parts → Bool) → 0 < length piece →
-    Stopped s bytes quads (get_or piece 0 0 ∷ []) stop e told tells selects → Stopped s bytes quads piece stop e told tells selects
-first-stopped s bytes quads [] stop e told tells selects some h = absurd (omega (arith, some))
-first-stopped s bytes quads (c ∷ piece) stop e told tells selects some h = stopped-wide s bytes quads (c ∷ []) piece stop e told tells selects h
-
 -- what is left of the piece stopped the reading
 pub part-stopped : (s : Settings) (bytes : List ℕ) (quads : List Parts) (piece : List ℕ) (at : ℕ) (stop : Stop) (e1 e2 : EngineState) (t0 t1 t2 : List Parts → Type 0) (s0 s1 : Parts → Bool) → ((q : Parts) → s1 q ≡ s0 q) →
     (a : Fed s bytes quads (take at piece) e1 t0 t1 s0) → Stopped s (bytes ++ take at piece) (quads ++ a.more) (drop at piece) stop e2 t1 t2 s1 → Stopped s bytes quads piece stop e2 t0 t2 s0

@@ -99,13 +99,3 @@ said_some facts old new none quads told later selects empty e put =
 
 pub said_nothing : (facts : List Fact) (old : StackState) (told : List Parts → Type 0) (selects : Parts → Bool) → SaysSome facts old told told selects
 said_nothing facts old told selects = record { front = []; first = inl refl; put = put-none told told selects (λ all t. t) }
-
--- where there are no tokens
-pub silence_said : (c : Context) (tokens : List Token) (u : Cursor) (s : StackState) (told : List Parts → Type 0) (selects : Parts → Bool) → tokens ≡ [] → Says (events_step c (events_of tokens) u).0 s s told told selects
-unfolding tell events_step
-silence_said c tokens u s told selects none =
-    subst (λ ts. Says (events_step c (events_of ts) u).0 s s told told selects) (sym none) (record { more = []; told_is = refl; put = put-none told told selects (λ all t. t) })
-
-pub silence_stays : (c : Context) (tokens : List Token) (u : Cursor) → tokens ≡ [] → u ≡ (events_step c (events_of tokens) u).1
-unfolding events_step
-silence_stays c tokens u none = ap (λ ts. (events_step c (events_of ts) u).1) (sym none)

@@ -1,5 +1,6 @@
 -- The tokens of a byte, one after another.
-use Rattle.std.proofs.Common.{◌≡◌, ℕ, ◌+◌, ◌-◌, ◌^◌, ◌≤◌, min, List, ◌++◌, length, Ok, sym, ap, ◌∙◌, subst, arith, length-append}
+use Rattle.std.proofs.Common.{◌≡◌, ℕ, ◌+◌, ◌-◌, ◌^◌, ◌≤◌, min, List, [], ◌∷◌, ◌++◌, length, take, Ok, sym, ap, ◌∙◌, subst, arith, length-append}
+use Rattle.std.proofs.lemmas.List.{length-take}
 use Rattle.jl_model.specs.Parts.{Parts}
 use Rattle.jl_model.specs.declared.tokens.Token.{Token}
 use Rattle.jl_token.specs.Lexed as lexed
@@ -12,7 +13,6 @@ use Rattle.jl_engine.specs.Gathers.{gather}
 use Rattle.jl_engine.specs.Translation.{events_step, then_told}
 use Rattle.jl_engine.specs.TreeEvents.{events_of}
 use Rattle.jl_engine.specs.declared.cursors.Cursor.{Cursor}
-use Rattle.jl_engine.proofs.Feeding.{fits}
 use Rattle.jl_engine.proofs.Gathering.{gather_on, stops_first}
 use Rattle.jl_engine.proofs.TokensOfTrees.{events-of-append}
 use Rattle.jl_engine.proofs.DecidedTrees.{events-append}
@@ -43,14 +43,25 @@ tokens_stop c xs ys u quads s why h =
 
 -- ---- the count of bytes
 
-pub one_more : (bytes : List ℕ) (given : List Token) (l : LexState) (n count : ℕ) → lexed.Stands 0 bytes given l → lexed.IsFormed l → count ≡ length bytes → n ≡ min (l.reading.at + 1) (2 ^ 64 - 1) → n ≡ count + 1
-one_more bytes given l n count h f c e =
-    let room : length bytes ≤ 2 ^ 40 = fits bytes given l h f in
-    let at = h.reading.at_is in
-    omega (arith, room, at, c, e)
-
 pub run_more : (bytes run : List ℕ) (given : List Token) (l : LexState) (n count : ℕ) → lexed.Stands 0 (bytes ++ run) given l → count ≡ length bytes → n ≡ l.reading.at → n ≡ count + length run
 run_more bytes run given l n count h c e =
     let at = h.reading.at_is in
     let all : length (bytes ++ run) ≡ length bytes + length run = length-append bytes run in
     omega (arith, at, all, c, e)
+
+-- a byte behind them
+pub last_more : (bytes run : List ℕ) (last : ℕ) (given : List Token) (l : LexState) (n count : ℕ) → lexed.Stands 0 ((bytes ++ run) ++ last ∷ []) given l → count ≡ length bytes → n ≡ l.reading.at → n ≡ count + length run + 1
+last_more bytes run last given l n count h c e =
+    let at = h.reading.at_is in
+    let all : length ((bytes ++ run) ++ last ∷ []) ≡ length (bytes ++ run) + 1 = length-append (bytes ++ run) (last ∷ []) in
+    let front : length (bytes ++ run) ≡ length bytes + length run = length-append bytes run in
+    omega (arith, at, all, front, c, e)
+
+-- the same at a byte that isn't taken
+pub stopped_more : (bytes run : List ℕ) (last some : ℕ) (given : List Token) (l : LexState) (piece : List ℕ) (n count : ℕ) → lexed.Stands 0 bytes given l → take some piece ≡ run ++ last ∷ [] → some ≤ length piece → l.reading.at + some ≤ 2 ^ 40 + 1 →
+    count ≡ length bytes → n ≡ min (count + some) (2 ^ 64 - 1) → n ≡ count + length run + 1
+stopped_more bytes run last some given l piece n count h is within places c e =
+    let at = h.reading.at_is in
+    let all : length (take some piece) ≡ length run + 1 = ap length is ∙ length-append run (last ∷ []) in
+    let len : length (take some piece) ≡ min some (length piece) = length-take some piece in
+    omega (arith, at, all, len, within, places, c, e)

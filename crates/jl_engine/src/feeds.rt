@@ -1,10 +1,9 @@
-//! Bytes, one after another.
+//! Bytes, token by token.
 ghost use Rattle.std.specs.Prelude.{◌≡◌, ◌<◌, ◌≤◌, ◌+◌, ◌-◌, ◌^◌, ℕ, List, [], ◌∷◌, ◌++◌, length, take, min, option_to_list, true, false, Ok, OnOk, OnErr, IfOk, IfErr, IfSome, IsSome, IsErrOf};
 ghost use Rattle.jl_model.specs.Causes as causes;
 ghost use Rattle.jl_model.specs.Parts.{Parts};
 ghost use Rattle.jl_model.specs.declared.scalars.Scalar.TheVariants as scalars;
 ghost use Rattle.jl_defs.specs.Settings.{Settings};
-ghost use Rattle.jl_token.specs.declared.readings.Reading.{Reading};
 ghost use Rattle.jl_token.specs.Lexed.{number_of, token_of, told};
 ghost use Rattle.jl_context.specs.Contexts.{context_of};
 ghost use Rattle.jl_frames.specs.Answers.{HasCause};
@@ -23,7 +22,7 @@ use crate::stops::Stop;
 use crate::tellings::Quads;
 use jl_frames::FrameStop;
 use jl_model::{NoMemory, QuadOut, Scalar, Token};
-use jl_token::{Sign, Signs};
+use jl_token::{Next, Sign, Signs};
 use std::alloc::Global;
 
 impl EngineState {
@@ -56,8 +55,8 @@ impl EngineState {
         Ok(())
     }
 
-    /// Reads some bytes from the front of a piece, and tells how many: a run of a string's bytes, or
-    /// else one byte.
+    /// Reads bytes from the front of a piece, up to and with the first that completes a token, and tells
+    /// how many.
     #[inline(always)]
     fn feed_some<O: QuadOut>(
         &mut self,
@@ -80,41 +79,22 @@ impl EngineState {
         ensures cause { causes.HasCause (O.faults out.old) (O.faults out.new) (IsErrOf result Stop.OutFault) }
         ensures beside { O.beside out.old out.new }
     {
-        match self.lexer.run(piece) {
-            Err(_) => Err(Stop::NoMemory),
-            Ok(n) => {
-                if n > 0 {
-                    self.bytes = self.lexer.place();
-                    return Ok(n);
-                }
-                match self.feed_byte(alloc, piece[0], out) {
-                    Ok(()) => Ok(1),
+        match self.lexer.next(alloc, piece) {
+            Next::Nothing => {
+                self.bytes = self.lexer.place();
+                Ok(piece.len())
+            }
+            Next::Completes { count, signs } => {
+                self.bytes = self.lexer.place();
+                match self.say(alloc, signs, self.bytes.saturating_sub(1), out) {
+                    Ok(()) => Ok(count),
                     Err(stop) => Err(stop),
                 }
             }
-        }
-    }
-
-    /// Reads one more byte.
-    #[inline(always)]
-    fn feed_byte<O: QuadOut>(&mut self, alloc: Global, byte: u8, out: &mut O) -> Result<(), Stop>
-        requires live { self.old.lexer.ended ≡ false }
-        ensures fed { OnOk result ((s : Settings) (bytes : List ℕ) (quads : List Parts) → Stands s bytes quads self.old
-            → Fed s bytes quads (byte ∷ []) self.new (O.tells out.old) (O.tells out.new) (O.selects out.old)) }
-        ensures stopped { IfErr result (λ stop. (s : Settings) (bytes : List ℕ) (quads : List Parts) → Stands s bytes quads self.old
-            → Stopped s bytes quads (byte ∷ []) stop self.new (O.tells out.old) (O.tells out.new) (O.selects out.old)) }
-        ensures live { self.new.lexer.ended ≡ false }
-        ensures goes_on { self.new.stopped ≡ self.old.stopped }
-        ensures ended { self.new.ended ≡ self.old.ended }
-        ensures selects { (q : Parts) → O.selects out.new q ≡ O.selects out.old q }
-        ensures cause { causes.HasCause (O.faults out.old) (O.faults out.new) (IsErrOf result Stop.OutFault) }
-        ensures beside { O.beside out.old out.new }
-    {
-        let at = self.lexer.place();
-        self.bytes = at.saturating_add(1);
-        match self.lexer.advance(alloc, byte) {
-            Some(signs) => self.say(alloc, signs, at, out),
-            None => Err(self.lexer_stop()),
+            Next::Stopped { count } => {
+                self.bytes = self.bytes.saturating_add(count as u64);
+                Err(self.lexer_stop())
+            }
         }
     }
 
@@ -131,32 +111,8 @@ impl EngineState {
     }
 
     /// Tells the facts of what a byte completes, and puts their quads once none of them is at fault.
-    #[inline(always)]
-    fn say<O: QuadOut>(
-        &mut self,
-        alloc: Global,
-        signs: Signs,
-        at: u64,
-        out: &mut O,
-    ) -> Result<(), Stop>
-        ensures says { OnOk result (Says (events_step (context_of self.old.context) (events_of (told signs at self.old.lexer.reading)) self.old.cursor).0 self.old.stack self.new.stack (O.tells out.old) (O.tells out.new) (O.selects out.old)) }
-        ensures cursor { OnOk result (self.new.cursor ≡ (events_step (context_of self.old.context) (events_of (told signs at self.old.lexer.reading)) self.old.cursor).1) }
-        ensures some { OnErr result (SaysSome (events_step (context_of self.old.context) (events_of (told signs at self.old.lexer.reading)) self.old.cursor).0 self.old.stack (O.tells out.old) (O.tells out.new) (O.selects out.old)) }
-        ensures stop { IfErr result (StopsSaying (events_step (context_of self.old.context) (events_of (told signs at self.old.lexer.reading)) self.old.cursor).0 self.old.stack) }
-        ensures kept { self.new ≡ record self.old { cursor = self.new.cursor; stack = self.new.stack } }
-        ensures selects { (q : Parts) → O.selects out.new q ≡ O.selects out.old q }
-        ensures cause { causes.HasCause (O.faults out.old) (O.faults out.new) (IsErrOf result Stop.OutFault) }
-        ensures beside { O.beside out.old out.new }
-    {
-        if is_silent(signs) {
-            return Ok(());
-        }
-        self.say_signs(alloc, signs, at, out)
-    }
-
-    /// The same, where it completes something: so this stands apart from what runs for each byte.
     #[inline(never)]
-    fn say_signs<O: QuadOut>(
+    fn say<O: QuadOut>(
         &mut self,
         alloc: Global,
         signs: Signs,
@@ -310,9 +266,8 @@ impl EngineState {
         ensures stops { IfErr result (λ stop. HasCause stop (gather (events_step (context_of self.old.context) (events.Key self.old.lexer.reading.start self.old.lexer.reading.part ∷ []) self.old.cursor).0 quads.old self.old.stack)) }
         ensures kept { self.new ≡ record self.old { cursor = self.new.cursor; stack = self.new.stack } }
     {
-        let reading = &self.lexer.state().reading;
-        let at = reading.start;
-        match reading.part.copy(alloc) {
+        let at = self.lexer.token_place();
+        match self.lexer.text().copy(alloc) {
             Ok(name) => self.tell_event(alloc, Event::Key { at, name }, quads),
             Err(NoMemory) => Err(FrameStop::NoMemory),
         }
@@ -326,9 +281,8 @@ impl EngineState {
         ensures stops { IfErr result (λ stop. HasCause stop (gather (events_step (context_of self.old.context) (events.Value self.old.lexer.reading.start (scalars.Str self.old.lexer.reading.part) ∷ []) self.old.cursor).0 quads.old self.old.stack)) }
         ensures kept { self.new ≡ record self.old { cursor = self.new.cursor; stack = self.new.stack } }
     {
-        let reading = &self.lexer.state().reading;
-        let at = reading.start;
-        match reading.part.copy(alloc) {
+        let at = self.lexer.token_place();
+        match self.lexer.text().copy(alloc) {
             Ok(text) => self.tell_event(
                 alloc,
                 Event::Value {
@@ -349,7 +303,7 @@ impl EngineState {
         ensures stops { IfErr result (λ stop. HasCause stop (gather (events_step (context_of self.old.context) (events.Value self.old.lexer.reading.start (scalars.Number self.old.lexer.reading.part) ∷ []) self.old.cursor).0 quads.old self.old.stack)) }
         ensures kept { self.new ≡ record self.old { cursor = self.new.cursor; stack = self.new.stack } }
     {
-        match self.lexer.state().reading.part.copy(alloc) {
+        match self.lexer.text().copy(alloc) {
             Ok(digits) => self.tell_scalar(alloc, Scalar::Number(digits), quads),
             Err(NoMemory) => Err(FrameStop::NoMemory),
         }
@@ -368,7 +322,7 @@ impl EngineState {
         ensures stops { IfErr result (λ stop. HasCause stop (gather (events_step (context_of self.old.context) (events.Value self.old.lexer.reading.start scalar ∷ []) self.old.cursor).0 quads.old self.old.stack)) }
         ensures kept { self.new ≡ record self.old { cursor = self.new.cursor; stack = self.new.stack } }
     {
-        let at = self.lexer.state().reading.start;
+        let at = self.lexer.token_place();
         self.tell_event(alloc, Event::Value { at, scalar }, quads)
     }
 
@@ -472,16 +426,5 @@ impl EngineState {
             Err(last) => Err(Stop::of_facts(last)),
             Ok(()) => put_all(quads, out),
         }
-    }
-}
-
-/// Whether a byte completes nothing.
-#[inline(always)]
-fn is_silent(signs: Signs) -> bool
-    ensures { result ≡ true → (at : ℕ) (reading : Reading) → told signs at reading ≡ [] }
-{
-    match signs.sign {
-        Sign::Nothing => !signs.number,
-        _ => false,
     }
 }

@@ -1,12 +1,12 @@
 //! Reads a made text again and again, and prints how many tokens it has: how fast is the lexer?
 //!
-//! The words are the kind of text (`nested`, `indented`, `numbers`, `long`, `wide` or `keys`) and how
-//! many millions of bytes it has, about. Run it under `time` or `valgrind --tool=callgrind`.
+//! The words are the kind of text (`nested`, `indented`, `deep`, `empty`, `numbers`, `long`, `wide` or
+//! `keys`) and how many millions of bytes it has, about. Run it under `time` or `valgrind --tool=callgrind`.
 #![tactic(auto)]
 
 ghost use Rattle.std.specs.Prelude.{◌≡◌, false};
 
-use jl_token::{Lexer, Sign};
+use jl_token::{Lexer, Next, Sign};
 use std::alloc::{AllocError, Global};
 use std::{env, io};
 
@@ -15,25 +15,20 @@ fn feed(lexer: &mut Lexer, alloc: Global, piece: &[u8], count: &mut u64) -> bool
     requires { lexer.old.ended ≡ false }
     ensures { lexer.new.ended ≡ false }
 {
-    let mut next = 0;
-    while next < piece.len() {
-        let byte = piece[next];
-        let Some(signs) = lexer.advance(alloc, byte) else {
-            return false;
-        };
-        next += 1;
-        if signs.number {
-            *count = count.wrapping_add(1);
-        }
-        if let Sign::Nothing = signs.sign {
-            if byte == b'"' {
-                let Ok(more) = lexer.run(&piece[next..]) else {
-                    return false;
-                };
-                next += more;
+    let mut read = 0;
+    while read < piece.len() {
+        match lexer.next(alloc, &piece[read..]) {
+            Next::Nothing => return true,
+            Next::Completes { count: some, signs } => {
+                read += some;
+                if signs.number {
+                    *count = count.wrapping_add(1);
+                }
+                if !matches!(signs.sign, Sign::Nothing) {
+                    *count = count.wrapping_add(1);
+                }
             }
-        } else {
-            *count = count.wrapping_add(1);
+            Next::Stopped { .. } => return false,
         }
     }
     true
@@ -65,6 +60,12 @@ fn long(alloc: Global, words: &str) -> Result<String, AllocError> {
 /// The same record over lines, each with its indent.
 const INDENTED: &str =
     "  {\n    \"identifier\": 12345,\n    \"labels\": [\n      \"alpha\",\n      \"beta gamma\",\n      true\n    ],\n    \"position\": {\n      \"longitude\": 1.5,\n      \"latitude\": null\n    },\n    \"description\": \"an item of the list\"\n  },\n";
+
+/// Objects inside one another over lines, so that most of the bytes are indents.
+const DEEP: &str =
+    "  {\n    \"part\": {\n      \"part\": {\n        \"part\": {\n          \"part\": {\n            \"part\": {\n              \"name\": \"the innermost\",\n              \"kinds\": [\n                1,\n                2\n              ]\n            }\n          }\n        }\n      }\n    }\n  },\n";
+
+const EMPTY: &str = "[],";
 
 const NUMBERS: &str = "12345,-1.25,6.02e23,0,987654321,3.14159,";
 
@@ -133,6 +134,8 @@ fn main(rt: HostRuntime) -> io::Result<()> {
                     read_pieces(alloc, piece.as_str(), bytes / 115_003, "0]")
                 }
                 "indented" => read_pieces(alloc, INDENTED, bytes / 216, "0]"),
+                "deep" => read_pieces(alloc, DEEP, bytes / 266, "0]"),
+                "empty" => read_pieces(alloc, EMPTY, bytes / 3, "0]"),
                 "numbers" => read_pieces(alloc, NUMBERS, bytes / 40, "0]"),
                 "keys" => read_keys(alloc, bytes / 35)?,
                 _ => {

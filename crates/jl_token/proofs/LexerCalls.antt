@@ -1,5 +1,5 @@
 -- What the calls of a lexer promise, from how the automaton moves.
-use Rattle.std.proofs.Common.{◌≡◌, ℕ, ◌^◌, ◌<◌, ◌≤◌, ◌⊎◌, inl, inr, Bool, true, false, List, [], ◌∷◌, ◌++◌, length, refl, sym, ap, ◌∙◌, subst, arith, Result, Ok, Err, Option, Some, None}
+use Rattle.std.proofs.Common.{◌≡◌, ℕ, ◌+◌, ◌^◌, ◌<◌, ◌≤◌, ◌⊎◌, inl, inr, Bool, true, false, List, [], ◌∷◌, ◌++◌, length, refl, sym, ap, ◌∙◌, subst, arith, Result, Ok, Err, Option, Some, None}
 use Rattle.std.specs.Option.{option_to_list}
 use Rattle.jl_model.specs.declared.codes.Code.TheVariants.{Truncated}
 use Rattle.jl_model.specs.declared.faults.Fault.{Fault}
@@ -54,6 +54,9 @@ pub kept_formed : (old new : Reading) (byte : ℕ) (tokens : List Token) → mov
 kept_formed old new byte tokens e f l =
     let k = step_kept old byte (tokens, new) (record { depth = f.depth; spot = f.spot }) e in
     record { depth = k.0.depth; spot = k.0.spot; place = omega (arith, k.1) }
+
+pub kept_place : (old new : Reading) (byte : ℕ) (tokens : List Token) → moved true 256 old byte ≡ Ok (tokens, new) → IsFormedReading old → new.at ≡ old.at + 1
+kept_place old new byte tokens e f = (step_kept old byte (tokens, new) (record { depth = f.depth; spot = f.spot }) e).1
 
 -- a byte that is refused
 refused : (start : ℕ) (p : List ℕ) (given : List Token) (old : LexState) (byte : ℕ) (fault : Fault) → Stands start p given old → moved true 256 old.reading byte ≡ Err fault → old.reading.at < 2 ^ 40 → Refuses start p byte fault

@@ -19,11 +19,13 @@ mod TokenPlaces
 mod Between
 mod OneByte
 pub mod LexerCalls
-mod WholeChars
+pub mod WholeChars
 mod PlainRuns
 mod AsciiFronts
 mod TextLanes
 mod LastOpens
+mod BlankRuns
+mod NextTokens
 pub mod OneTree
 pub mod OneReading
 pub mod MeantUtf8

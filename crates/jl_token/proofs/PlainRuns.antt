@@ -118,7 +118,7 @@ module _ (start : ℕ) (given : List Token) (make : InString → Spot) (moves : 
         on (at.Tail (suc n) l u) (at.Tail n 128 191) c cs p s i (tail_stays n l u c w.0 w.1) h (λ m j g. on_tail cs a.1 n 128 191 ((tail_rest n l u c w.0 w.1 cs).0 k) (p ++ c ∷ []) m j g)
 
 -- a run keeps the relation
-run_is_at : (start : ℕ) (given : List Token) (bytes : List ℕ) → AllText bytes → Utf8 bytes → (p : List ℕ) (s : Reading) (spot : Spot) → s.spot ≡ spot → is_plain_spot spot ≡ true → IsAt start p given s → IsAt start (p ++ bytes) given (behind s spot bytes)
+pub run_is_at : (start : ℕ) (given : List Token) (bytes : List ℕ) → AllText bytes → Utf8 bytes → (p : List ℕ) (s : Reading) (spot : Spot) → s.spot ≡ spot → is_plain_spot spot ≡ true → IsAt start p given s → IsAt start (p ++ bytes) given (behind s spot bytes)
 run_is_at start given bytes a u p s (spots.InText at.Plain) i e h = on_chars start given spots.InText text_moves bytes a u p s i h
 run_is_at start given bytes a u p s (spots.InKey at.Plain) i e h = on_chars start given spots.InKey key_moves bytes a u p s i h
 run_is_at start given bytes a u p s _ i e h = absurd (false≢true e)
@@ -130,7 +130,7 @@ pub runs_none : (old new : LexState) → new ≡ old → Runs old new []
 runs_none old new e = λ start p given s. subst (Stands start (p ++ []) given) (sym e) (subst (λ x. Stands start x given old) (sym (append-nil p)) s)
 
 -- ---- how many bytes a run takes
-take_less : (n m : ℕ) (xs : List ℕ) → n ≤ m → take n (take m xs) ≡ take n xs
+pub take_less : (n m : ℕ) (xs : List ℕ) → n ≤ m → take n (take m xs) ≡ take n xs
 take_less zero m xs l = refl
 take_less (suc n) zero xs l = absurd (omega arith)
 take_less (suc n) (suc m) [] l = refl

@@ -10,4 +10,5 @@ pub mod StringSteps
 pub mod WordSigns
 pub mod Moves
 pub mod Runs
+pub mod Nexts
 pub mod TokenTexts

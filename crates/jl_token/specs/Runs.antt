@@ -1,5 +1,5 @@
--- Runs of bytes that mean themselves in a string, in words of the crate's own.
-use Rattle.std.specs.Prelude.{ℕ, ◌+◌, ◌-◌, Bool, true, false, ◌&&◌, not, leb, eqb, List, ◌++◌, length, take, Option, Some, None}
+-- Runs of bytes that are taken at once, in words of the crate's own.
+use Rattle.std.specs.Prelude.{ℕ, ◌+◌, ◌-◌, Bool, true, false, ◌&&◌, ◌||◌, not, leb, eqb, List, ◌++◌, length, take, Option, Some, None}
 use Rattle.std.specs.List.{take_while}
 use Rattle.std.specs.Str.Lossy.{utf8_valid_len}
 use Rattle.jl_model.specs.declared.tokens.Token.{Token}
@@ -11,6 +11,9 @@ use Rattle.jl_token.specs.declared.strings.InString.TheVariants as at
 use Rattle.jl_token.specs.declared.states.LexState.{LexState}
 use Rattle.jl_token.specs.declared.steps.LexStop.{LexStop}
 use Rattle.jl_token.specs.Lexed.{Stands, end_of_places}
+use Rattle.jl_token.specs.Stands.{IsAt}
+
+-- ---- bytes that mean themselves in a string
 
 -- no quote, no backslash and no control: it means itself in a string, as a character or as a part of one
 abbrev pub is_text : ℕ → Bool
@@ -57,3 +60,32 @@ ran s bytes = record { at = s.at + length bytes; start = s.start; spot = s.spot;
 -- the lexer takes these bytes, and they complete no token
 abbrev pub Runs : LexState → LexState → List ℕ → Type 0
 Runs old new bytes = (start : ℕ) (p : List ℕ) (given : List Token) → Stands start p given old → Stands start (p ++ bytes) given new
+
+-- ---- blanks between tokens
+
+abbrev pub is_blank : ℕ → Bool
+is_blank c = eqb c 32 || (eqb c 10 || (eqb c 13 || eqb c 9))
+
+-- whether no token is being read
+abbrev pub is_between : Spot → Bool
+is_between (spots.InKey place) = false
+is_between (spots.InText place) = false
+is_between (spots.InNumber place) = false
+is_between (spots.InWord place) = false
+is_between _ = true
+
+-- where a text stands after so many blanks
+abbrev pub behind_blanks : Reading → ℕ → Reading
+behind_blanks s n = record { at = s.at + n; start = s.start; spot = s.spot; part = s.part; within = s.within }
+
+-- the text moves on over these bytes, and they complete no token
+abbrev pub Passes : Reading → Reading → List ℕ → Type 0
+Passes old new bytes = (start : ℕ) (p : List ℕ) (given : List Token) → IsAt start p given old → IsAt start (p ++ bytes) given new
+
+-- where a string that begins here stands
+abbrev pub string_at : Spot → Option Spot
+string_at spots.Value = Some (spots.InText at.Plain)
+string_at spots.FirstItem = Some (spots.InText at.Plain)
+string_at spots.FirstKey = Some (spots.InKey at.Plain)
+string_at spots.Key = Some (spots.InKey at.Plain)
+string_at _ = None

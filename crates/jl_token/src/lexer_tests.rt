@@ -1,7 +1,7 @@
 //! What the lexer makes of small texts, however they are cut.
 ghost use Rattle.std.specs.Prelude.{◌≡◌, false};
 
-use crate::{LexStop, Lexer, Token};
+use crate::{LexStop, Lexer, Next, Sign, Signs, Token};
 use jl_model::{Code, Scalar};
 use std::alloc::{AllocError, Global};
 use std::process::Abort;
@@ -83,8 +83,17 @@ fn show_stop(out: &mut String, stop: LexStop) -> Result<(), AllocError> {
     }
 }
 
-/// Gives a piece to the lexer, by runs and single bytes. Says whether it goes on.
-fn feed(
+/// How a piece is given to the lexer.
+#[derive(Clone, Copy)]
+enum By {
+    Bytes,
+    /// By runs, and single bytes between them.
+    Runs,
+    Tokens,
+}
+
+/// Gives a piece to the lexer, by bytes and perhaps runs. Says whether it goes on.
+fn feed_bytes(
     lexer: &mut Lexer,
     alloc: Global,
     piece: &[u8],
@@ -120,15 +129,92 @@ fn feed(
     Ok(true)
 }
 
+fn show_text(out: &mut String, lexer: &Lexer, before: &str, mark: &str) -> Result<(), AllocError> {
+    out.push_str(before)?;
+    show_bytes(out, lexer.text().bytes())?;
+    show_place(out, mark, lexer.token_place())
+}
+
+fn show_word(out: &mut String, lexer: &Lexer, word: &str) -> Result<(), AllocError> {
+    out.push_str(word)?;
+    show_place(out, "@", lexer.token_place())
+}
+
+/// Writes what the byte at a place completes.
+fn show_signs(out: &mut String, lexer: &Lexer, signs: Signs, at: u64) -> Result<(), AllocError> {
+    if signs.number {
+        show_text(out, lexer, "#", "@")?;
+    }
+    match signs.sign {
+        Sign::Nothing => Ok(()),
+        Sign::OpenObject => show_place(out, "{", at),
+        Sign::CloseObject => show_place(out, "}", at),
+        Sign::OpenArray => show_place(out, "[", at),
+        Sign::CloseArray => show_place(out, "]", at),
+        Sign::Key => show_text(out, lexer, "", ":"),
+        Sign::Text => show_text(out, lexer, "'", "@"),
+        Sign::Null => show_word(out, lexer, "null"),
+        Sign::True => show_word(out, lexer, "true"),
+        Sign::False => show_word(out, lexer, "false"),
+    }
+}
+
+/// Gives a piece to the lexer token by token. Says whether it goes on.
+fn feed_tokens(
+    lexer: &mut Lexer,
+    alloc: Global,
+    piece: &[u8],
+    out: &mut String,
+) -> Result<bool, AllocError>
+    requires { lexer.old.ended ≡ false }
+    ensures { lexer.new.ended ≡ false }
+{
+    let mut read = 0;
+    while read < piece.len() {
+        match lexer.next(alloc, &piece[read..]) {
+            Next::Nothing => return Ok(true),
+            Next::Completes { count, signs } => {
+                read += count;
+                show_signs(out, lexer, signs, lexer.place().saturating_sub(1))?;
+            }
+            Next::Stopped { .. } => {
+                if let Some(stop) = lexer.state().stopped {
+                    show_stop(out, stop)?;
+                }
+                return Ok(false);
+            }
+        }
+    }
+    Ok(true)
+}
+
+/// Gives a piece to the lexer. Says whether it goes on.
+fn feed(
+    lexer: &mut Lexer,
+    alloc: Global,
+    piece: &[u8],
+    by: By,
+    out: &mut String,
+) -> Result<bool, AllocError>
+    requires { lexer.old.ended ≡ false }
+    ensures { lexer.new.ended ≡ false }
+{
+    match by {
+        By::Bytes => feed_bytes(lexer, alloc, piece, false, out),
+        By::Runs => feed_bytes(lexer, alloc, piece, true, out),
+        By::Tokens => feed_tokens(lexer, alloc, piece, out),
+    }
+}
+
 /// What the lexer makes of a text that comes in two pieces.
-fn read_cut(alloc: Global, text: &[u8], cut: usize, by_runs: bool) -> Result<String, AllocError> {
+fn read_cut(alloc: Global, text: &[u8], cut: usize, by: By) -> Result<String, AllocError> {
     let mut out = String::new(alloc);
     let mut lexer = Lexer::new(alloc, 0);
     let cut = cut.min(text.len());
-    if !feed(&mut lexer, alloc, &text[..cut], by_runs, &mut out)? {
+    if !feed(&mut lexer, alloc, &text[..cut], by, &mut out)? {
         return Ok(out);
     }
-    if !feed(&mut lexer, alloc, &text[cut..], by_runs, &mut out)? {
+    if !feed(&mut lexer, alloc, &text[cut..], by, &mut out)? {
         return Ok(out);
     }
     match lexer.finish(alloc) {
@@ -138,13 +224,22 @@ fn read_cut(alloc: Global, text: &[u8], cut: usize, by_runs: bool) -> Result<Str
     Ok(out)
 }
 
-/// Reads the text byte by byte, whole and cut at each place, and compares what was read.
+/// Reads the text byte by byte, and cut at each place by runs and by tokens, and compares what was
+/// read.
 fn check(rt: &impl Abort, alloc: Global, text: &[u8], want: &str) -> Result<(), Fail> {
-    let bytes = read_cut(alloc, text, 0, false)?;
+    let bytes = read_cut(alloc, text, 0, By::Bytes)?;
+    let tokens = read_cut(alloc, text, 0, By::Tokens)?;
+    assert_eq!(rt; tokens.as_str(), want, "by tokens: {text:?}");
     assert_eq!(rt; bytes.as_str(), want, "by bytes: {text:?}");
     for cut in 0..text.len() {
-        let cut_text = read_cut(alloc, text, cut, true)?;
-        assert_eq!(rt; cut_text.as_str(), want, "cut at {cut}: {text:?}");
+        let by_runs = read_cut(alloc, text, cut, By::Runs)?;
+        assert_eq!(rt; by_runs.as_str(), want, "by runs, cut at {cut}: {text:?}");
+        let by_tokens = read_cut(alloc, text, cut, By::Tokens)?;
+        assert_eq!(rt;
+            by_tokens.as_str(),
+            want,
+            "by tokens, cut at {cut}: {text:?}"
+        );
     }
     Ok(())
 }
@@ -348,14 +443,14 @@ fn structures(rt: HostRuntime) -> Result<(), Fail> {
 }
 
 /// What the lexer makes of 256 opening brackets and this piece.
-fn read_deep(alloc: Global, piece: &[u8]) -> Result<String, AllocError> {
+fn read_deep(alloc: Global, piece: &[u8], by: By) -> Result<String, AllocError> {
     let mut lexer = Lexer::new(alloc, 0);
     let mut out = String::new(alloc);
-    if !feed(&mut lexer, alloc, [b'['; 256].as_slice(), false, &mut out)? {
+    if !feed(&mut lexer, alloc, [b'['; 256].as_slice(), by, &mut out)? {
         return Ok(out);
     }
     out.clear();
-    if !feed(&mut lexer, alloc, piece, false, &mut out)? {
+    if !feed(&mut lexer, alloc, piece, by, &mut out)? {
         return Ok(out);
     }
     out.clear();
@@ -375,19 +470,21 @@ fn depth(rt: HostRuntime) -> Result<(), Fail> {
         (b"{", "too deep at 256"),
     ];
     for (piece, want) in rows {
-        let read = read_deep(rt.alloc(), piece)?;
-        assert_eq!(rt; read.as_str(), want);
+        for by in [By::Bytes, By::Tokens] {
+            let read = read_deep(rt.alloc(), piece, by)?;
+            assert_eq!(rt; read.as_str(), want);
+        }
     }
     Ok(())
 }
 
 /// What the lexer makes of these bytes from this place on, or from 2^40 on.
-fn read_from(alloc: Global, start: u64, text: &[u8]) -> Result<String, AllocError> {
+fn read_from(alloc: Global, start: u64, text: &[u8], by: By) -> Result<String, AllocError> {
     let mut lexer = Lexer::new(alloc, start.min(1_099_511_627_776));
     let mut out = String::new(alloc);
-    if !feed(&mut lexer, alloc, text, false, &mut out)? {
+    if !feed(&mut lexer, alloc, text, by, &mut out)? {
         out.push_str("; ")?;
-        feed(&mut lexer, alloc, text, false, &mut out)?;
+        feed(&mut lexer, alloc, text, by, &mut out)?;
     }
     Ok(out)
 }
@@ -409,8 +506,10 @@ fn length(rt: HostRuntime) -> Result<(), Fail> {
         ),
     ];
     for (start, text, want) in rows {
-        let read = read_from(rt.alloc(), start, text)?;
-        assert_eq!(rt; read.as_str(), want);
+        for by in [By::Bytes, By::Tokens] {
+            let read = read_from(rt.alloc(), start, text, by)?;
+            assert_eq!(rt; read.as_str(), want);
+        }
     }
     Ok(())
 }
@@ -424,7 +523,7 @@ fn weight_and_state(rt: HostRuntime) -> Result<(), Fail> {
             &mut lexer,
             rt.alloc(),
             b"{\"ab\":{\"c\":\"\\u00e9",
-            true,
+            By::Runs,
             &mut out
         )?
     );

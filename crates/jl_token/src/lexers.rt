@@ -1,5 +1,5 @@
 //! The lexer.
-ghost use Rattle.std.specs.Prelude.{◌≡◌, ◌≤◌, ◌<◌, ◌-◌, ◌^◌, ◌++◌, ℕ, List, [], ◌∷◌, Some, None, Ok, Err, true, false, IfSome, IfNone, IfOk, IfErr, OnOk, OnErr, IsSome, IsNone, IsTrue, IsUtf8, ◌↔◌, ◌⊎◌, length, min, take};
+ghost use Rattle.std.specs.Prelude.{◌≡◌, ◌≤◌, ◌<◌, ◌+◌, ◌-◌, ◌^◌, ◌++◌, ℕ, List, [], ◌∷◌, Some, None, Ok, Err, true, false, IfSome, IfNone, IfOk, IfErr, OnOk, OnErr, IsSome, IsNone, IsTrue, IsUtf8, ◌↔◌, ◌⊎◌, length, min, take};
 ghost use Rattle.std.specs.List.{AllByRecursion};
 ghost use Rattle.jl_model.specs.declared.faults.Fault.{Fault};
 ghost use Rattle.jl_model.specs.declared.tokens.Token.{Token};
@@ -11,19 +11,26 @@ ghost use Rattle.jl_token.specs.declared.states.LexState.{LexState};
 ghost use Rattle.jl_token.specs.declared.steps.LexStop.{LexStop};
 ghost use Rattle.jl_token.specs.Machine as machine;
 ghost use Rattle.jl_token.specs.Runs.{run_len, Runs};
+ghost use Rattle.jl_token.specs.Nexts.{CountsWithin, Reached, read_len, goes_on};
 ghost use Rattle.jl_token.specs.TokenTexts.{HasUtf8};
 ghost use Rattle.jl_token.specs.Lexed.{Stands, IsFront, IsFormed, Takes, AreWhole, Stops, Ends, StopsEnd, IsNumberToken, HasOneText, tokens_of, told, open_len};
 
 use crate::readings::Reading;
 use crate::runs::plain_len;
 use crate::states::LexState;
-use crate::steps::{LexStop, Signs, Step};
-use jl_model::{Code, Fault, NoMemory, Token};
+use crate::steps::{LexStop, Next, Signs, Step};
+use jl_model::{Code, Fault, NoMemory, Text, Token};
 use std::alloc::Global;
 use std::marker::Model;
 
 /// The place at which no byte may stand.
 const END_OF_PLACES: u64 = 1_099_511_627_776;
+
+/// The answer to a byte there.
+const TOO_LONG: LexStop = LexStop::Refused(Fault {
+    code: Code::TooLong,
+    at: END_OF_PLACES,
+});
 
 /// A lexer of one JSON text (RFC 8259) in UTF-8.
 ///
@@ -109,37 +116,58 @@ impl Lexer {
         if let Some(stop) = self.state.stopped {
             return Err(stop);
         }
-        let at = self.state.reading.at;
-        let start = self.state.reading.start;
-        if at >= END_OF_PLACES {
-            let fault = Fault {
-                code: Code::TooLong,
-                at: END_OF_PLACES,
-            };
-            return Err(self.state.stop(LexStop::Refused(fault)));
+        if self.state.reading.at >= END_OF_PLACES {
+            return Err(self.state.stop(TOO_LONG));
         }
-        match self.state.reading.move_on(alloc, byte) {
-            Ok(signs) => Ok(signs),
-            Err(halt) => Err(self.state.stop(halt.stop(at, start))),
+        self.state.take_byte(alloc, byte)
+    }
+
+    /// Takes bytes up to and with the first that completes a token, or all of them.
+    ///
+    /// The text of a key, a string or a number stands in `text()`, and its place in `token_place()`,
+    /// until the next token begins. Where the lexer has stopped, the error stands in
+    /// `state().stopped`.
+    pub fn next(&mut self, alloc: Global, bytes: &[u8]) -> Next
+        requires live { self.old.ended ≡ false }
+        ensures reached { self.old.stopped ≡ None → Reached result self.old self.new bytes.now }
+        ensures bound { CountsWithin result (length bytes.now) }
+        ensures places { self.old.stopped ≡ None → self.old.reading.at + read_len result (length bytes.now) ≤ 2 ^ 40 + 1 }
+        ensures again { IsSome self.old.stopped → (result ≡ Next.Stopped 0) × (self.new ≡ self.old) }
+        ensures goes_on { goes_on result ≡ true → self.new.stopped ≡ None }
+        ensures stops { goes_on result ≡ false → IsSome self.new.stopped }
+        ensures still_live { self.new.ended ≡ false }
+    {
+        if self.state.stopped.is_some() {
+            return Next::Stopped { count: 0 };
+        }
+        let room = END_OF_PLACES - self.state.reading.at;
+        let within = (bytes.len() as u64).min(room) as usize;
+        let next = self.state.next(alloc, &bytes[..within]);
+        if within == bytes.len() {
+            return next;
+        }
+        match next {
+            Next::Nothing => {
+                self.state.stop(TOO_LONG);
+                Next::Stopped { count: within + 1 }
+            }
+            _ => next,
         }
     }
 
-    /// Takes the next byte, and gives what it completes without the texts.
-    ///
-    /// The text of a key, a string or a number stands in `state().reading.part`, until the next
-    /// token begins. `None` says that the lexer has stopped, with the error in `state().stopped`.
-    pub fn advance(&mut self, alloc: Global, byte: u8) -> Option<Signs>
-        requires live { self.old.ended ≡ false }
-        ensures taken { IfSome result (λ signs. Takes self.old self.new byte (told signs self.old.reading.at self.new.reading)) }
-        ensures stops { IsNone result → (stop : LexStop) × (self.new.stopped ≡ Some stop) × Stops self.old byte stop }
-        ensures again { IsSome self.old.stopped → (result ≡ None) × (self.new ≡ self.old) }
-        ensures goes_on { IsSome result → self.new.stopped ≡ None }
-        ensures still_live { self.new.ended ≡ false }
+    /// The text of the token that is being read, as far as it was read, or of the last one that had a
+    /// text: what a string or a name means, or the bytes of a number.
+    pub fn text(&self) -> &Text
+        ensures { result.now ≡ self.now.reading.part }
     {
-        match self.take(alloc, byte) {
-            Ok(signs) => Some(signs),
-            Err(_) => None,
-        }
+        &self.state.reading.part
+    }
+
+    /// The place of that token.
+    pub fn token_place(&self) -> u64
+        ensures { result ≡ self.now.reading.start }
+    {
+        self.state.reading.start
     }
 
     /// Takes the next byte, and gives the tokens that it completes.

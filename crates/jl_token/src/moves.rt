@@ -61,7 +61,8 @@ impl Halt {
 
 impl Reading {
     /// Goes on to the next byte.
-    fn go_on(&mut self, spot: Spot)
+    #[inline(always)]
+    pub(crate) fn go_on(&mut self, spot: Spot)
         requires { self.old.at < 2 ^ 63 }
         ensures { self.new ≡ machine.next self.old spot self.old.within }
     {
@@ -70,7 +71,8 @@ impl Reading {
     }
 
     /// A token begins at the byte.
-    fn begin_token(&mut self, spot: Spot)
+    #[inline(always)]
+    pub(crate) fn begin_token(&mut self, spot: Spot)
         requires { self.old.at < 2 ^ 63 }
         ensures { self.new ≡ machine.token_begins self.old spot [] }
     {

@@ -1,4 +1,7 @@
-//! What one byte gives, and why a lexer stops.
+//! What bytes give, and why a lexer stops.
+ghost use Rattle.std.specs.Prelude.{◌≡◌, ℕ, [], true, false};
+ghost use Rattle.jl_token.specs.declared.readings.Reading.{Reading};
+ghost use Rattle.jl_token.specs.Lexed.{told};
 
 use jl_model::{Fault, Token};
 
@@ -40,4 +43,29 @@ pub enum Sign {
 pub struct Signs {
     pub number: bool,
     pub sign: Sign,
+}
+
+impl Signs {
+    /// Whether the byte completes nothing.
+    #[inline(always)]
+    pub fn is_silent(self) -> bool
+        ensures silent { result ≡ true → (at : ℕ) (reading : Reading) → told self at reading ≡ [] }
+        ensures told { result ≡ false → (at : ℕ) (reading : Reading) → told self at reading ≡ [] → ⊥ }
+    {
+        match self.sign {
+            Sign::Nothing => !self.number,
+            _ => false,
+        }
+    }
+}
+
+/// What a lexer read of some bytes.
+#[derive(Clone, Copy, Debug, PartialEq, Eq)]
+pub enum Next {
+    /// All of them, and they complete no token.
+    Nothing,
+    /// This many, of which the last one completes what the signs say, and the others nothing.
+    Completes { count: usize, signs: Signs },
+    /// This many, and it stopped at the last of them. None where it had stopped before.
+    Stopped { count: usize },
 }

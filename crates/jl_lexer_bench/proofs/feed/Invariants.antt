@@ -1,8 +1,8 @@
 use Rattle.std.proofs.Common.{◌≡◌, ◌-◌, false, length}
 use Rattle.jl_lexer_bench.proofs.feed.Given as goal
 
-abbrev pub invariant-loop-next : goal.invariant-loop-next
-invariant-loop-next l = l.lexer.ended ≡ false
+abbrev pub invariant-loop-read : goal.invariant-loop-read
+invariant-loop-read l = l.lexer.ended ≡ false
 
-abbrev pub decreases-loop-next : goal.decreases-loop-next
-decreases-loop-next l = length l.piece - l.next
+abbrev pub decreases-loop-read : goal.decreases-loop-read
+decreases-loop-read l = length l.piece - l.read
