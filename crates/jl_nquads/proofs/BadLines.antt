@@ -10,9 +10,8 @@ use Rattle.jl_model.specs.LineTokens as tokens
 use Rattle.jl_model.specs.LineGrammar.{Line, Document, last, ended, line_tokens, document_tokens, document_quads, statement_quads, IsDocument, QuadsOf, BeginsLines}
 use Rattle.jl_model.specs.LineFaults.{GoesOn, StopsAt, BreaksLine, EndsInLine, BadLine}
 use Rattle.jl_nquads.specs.EndedLines.{EndedLine, ended_tokens, HasEnded}
-use Rattle.jl_nquads.specs.Spots.{Spot, begins, goes, said, Left, Begins, Breaks, BreaksInside, BreaksAtEnd}
+use Rattle.jl_nquads.specs.Spots.{Spot, begins, goes, said, Left, Begins, Breaks, BreaksInside, BreaksAtEnd, not_end}
 use Rattle.jl_nquads.proofs.Documents.{rows_join, rows_part, row_at_end, row_alone, goes_front, line_goes, line_no_end, no_end_in, end_inside, first_ends, completes, before, before_tokens, before_quads, ended_row, joined_row, joined_bytes, joined_document}
-use Rattle.jl_nquads.proofs.NoLineEnds.{not_end}
 use Rattle.jl_nquads.proofs.SaidLines.{line_of, said_line}
 use Rattle.jl_nquads.proofs.SpotRows.{head_is_token, tail_is_row}
 use Rattle.jl_nquads.proofs.Texts.{head_is, tail_is, fronts_of, lists_of}

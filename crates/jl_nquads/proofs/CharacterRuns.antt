@@ -75,11 +75,11 @@ all_stand frame (c ∷ cs) h k =
       | inl e ↦ (and_parts (not (is_stop (close_of frame) c)) true (ap (list_all (λ x. not (is_stop (close_of frame) x))) (sym (encode_ascii c (stop_low (close_of frame) c (close_low frame) e))) ∙ m)).0
     ]
 
-plain_spelling : (cs : List ℕ) → flat_map spelling (map itself cs) ≡ encodes cs
+pub plain_spelling : (cs : List ℕ) → flat_map spelling (map itself cs) ≡ encodes cs
 plain_spelling [] = refl
 plain_spelling (c ∷ cs) = ap (λ z. encode c ++ z) (plain_spelling cs)
 
-plain_meaning : (cs : List ℕ) → meaning (map itself cs) ≡ encodes cs
+pub plain_meaning : (cs : List ℕ) → meaning (map itself cs) ≡ encodes cs
 plain_meaning [] = refl
 plain_meaning (c ∷ cs) = ap (λ z. encode c ++ z) (plain_meaning cs)
 

@@ -8,8 +8,9 @@ use Rattle.std.specs.List.{list_all}
 use lib.Utf8.{encode, encodes, scalar}
 use Rattle.jl_model.specs.LineTokens.{is_in, base_ranges, further_ranges, begins_label, goes_on_label, is_comment_character, is_line_end}
 use Rattle.jl_nquads.specs.CodePoints.{HasCode, BeginsCode}
+use Rattle.jl_nquads.specs.Spots.{not_end}
 use Rattle.jl_nquads.proofs.Deciding.{decide_below, decide_true, decide_begins, both_decide}
-use Rattle.jl_nquads.proofs.NoLineEnds.{not_end, char_no_end, within}
+use Rattle.jl_nquads.proofs.NoLineEnds.{char_no_end, within}
 use Rattle.jl_nquads.proofs.Texts.{head_is, tail_is, fronts_of, turns, TurnsIn}
 use Rattle.jl_nquads.proofs.TokenBodies.{high_alphanumeric, scalar_below}
 

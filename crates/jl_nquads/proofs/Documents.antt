@@ -11,11 +11,11 @@ use Rattle.jl_model.specs.LineTokens as tokens
 use Rattle.jl_model.specs.LineGrammar.{Line, Document, last, ended, line_tokens, document_tokens, document_quads, statement_quads, IsDocument, QuadsOf, BeginsLines}
 use Rattle.jl_model.specs.LineFaults.{GoesOn, StopsAt, BreaksLine, EndsInLine, BadLine}
 use Rattle.jl_nquads.specs.EndedLines.{EndedLine, ended_tokens, ended_quads, HasEnded}
-use Rattle.jl_nquads.specs.Spots.{Spot, begins, has_subject, has_predicate, has_string, has_carets, has_object, has_graph, has_dot, has_comment, leads_to, goes, said, Left, Begins, StandsAt, Reaches, Breaks, BreaksInside, BreaksAtEnd}
-use Rattle.jl_nquads.proofs.NoLineEnds.{not_end, is_inside, token_no_end, ends_at_line_end}
+use Rattle.jl_nquads.specs.Spots.{Spot, begins, has_subject, has_predicate, has_string, has_carets, has_object, has_graph, has_dot, has_comment, leads_to, goes, said, Left, Begins, StandsAt, Reaches, Breaks, BreaksInside, BreaksAtEnd, not_end}
+use Rattle.jl_nquads.proofs.NoLineEnds.{is_inside, token_no_end, ends_at_line_end}
 use Rattle.jl_nquads.proofs.SaidLines.{said_line, line_of}
 use Rattle.jl_nquads.proofs.SpotRows.{goes_on, goes_where, said_on, said_goes, row_from, head_is_token, head_ends, tail_is_row, ends_before_next, ends_at_end, ends_same}
-use Rattle.jl_nquads.proofs.Tags.{other_ends}
+use Rattle.jl_nquads.proofs.TagBytes.{other_ends}
 use Rattle.jl_nquads.proofs.Texts.{head_is, tail_is, fronts_of}
 
 -- ---- rows one behind the other

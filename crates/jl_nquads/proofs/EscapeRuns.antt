@@ -32,7 +32,7 @@ same_at false false true e c h = cc
 same_at false false false true c h = cc
 
 -- a byte that needs no escape is written as it is
-same_byte : (c : ℕ) → needs_escape c ≡ false → escaped c ≡ c ∷ []
+pub same_byte : (c : ℕ) → needs_escape c ≡ false → escaped c ≡ c ∷ []
 same_byte c h = same_at (c == 34) (c == 92) (c == 10) (c == 13) c h
 
 -- a run is written as it is

@@ -8,6 +8,7 @@ use lib.Utf8.{encode, encodes}
 use Rattle.jl_model.specs.Labels.{last_byte}
 use Rattle.jl_model.specs.LineTokens.{is_label, begins_label, goes_on_label, is_in, further_ranges}
 use Rattle.jl_model.proofs.LineCuts.{ascii_cut}
+use Rattle.jl_nquads.specs.LinesRead.{closes_label}
 use Rattle.jl_nquads.specs.Nexts.{opened_by}
 use Rattle.jl_nquads.specs.declared.nexts.Next.{Next}
 use Rattle.jl_nquads.specs.declared.nexts.Next.TheVariants.{Other}
@@ -103,10 +104,6 @@ behind_dot cs [] h = absurd (no_dot_last cs h)
 behind_dot cs (d ∷ es) h = (d, es, refl)
 
 -- ---- what may stand behind a label
-
--- a byte of ASCII that no label goes on with
-abbrev pub closes_label : ℕ → Bool
-closes_label c = nat_lt c 128 && not (goes_on_label c)
 
 -- such a byte, or a dot and such a byte
 abbrev pub ClosesLabel : List ℕ → Type 0

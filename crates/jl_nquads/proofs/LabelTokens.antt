@@ -10,12 +10,13 @@ use Rattle.jl_model.specs.LineTokens.{LineToken, token_bytes, is_token, ends_bef
 use Rattle.jl_model.specs.LineTokens as tokens
 use Rattle.jl_model.proofs.LineCuts.{opens, only_label, ascii_cut}
 use Rattle.jl_nquads.specs.CodePoints.{HasCode, BeginsCode}
+use Rattle.jl_nquads.specs.LinesRead.{closes_label}
 use Rattle.jl_nquads.specs.Nexts.{opened_by, opening, allows, StopsBehindLabel}
 use Rattle.jl_nquads.specs.declared.nexts.Next.{Next}
 use Rattle.jl_nquads.specs.declared.nexts.Next.TheVariants.{End, Blank, Iri, Label, Str, Carets, Tag, Dot, Comment, Other}
 use Rattle.jl_nquads.specs.Spots.{Spot, begins, has_subject, has_predicate, has_string, has_carets, has_object, has_graph, has_dot, has_comment, leads_to, goes, said, Left, StandsAt, Reaches, Breaks, BreaksInside, BreaksAtEnd}
 use Rattle.jl_nquads.proofs.Codes.{rows_of, Ends, no_further, none_at_end, none_before_end, code_turns, in_label, first_of_label, encode_some}
-use Rattle.jl_nquads.proofs.LabelBytes.{label_opens, no_dot_last, label_with, label_first, one_label, behind_dot, closes_label, ClosesLabel, not_closed, first_low, first_high, high_opens}
+use Rattle.jl_nquads.proofs.LabelBytes.{label_opens, no_dot_last, label_with, label_first, one_label, behind_dot, ClosesLabel, not_closed, first_low, first_high, high_opens}
 use Rattle.jl_nquads.proofs.NoLineEnds.{label_goes_on, is_inside}
 use Rattle.jl_nquads.proofs.SpotRows.{goes_on, goes_where, said_goes, row_from, head_is_token, head_ends, tail_is_row, has_byte}
 use Rattle.jl_nquads.proofs.SpotSteps.{Alone, Joins, whole_at_line_end}

@@ -12,12 +12,10 @@ use Rattle.jl_model.specs.LineTokens.{Written, itself, letter, four, eight, spel
 use Rattle.jl_model.specs.LineTokens as tokens
 use Rattle.jl_model.specs.LineGrammar.{blank_tokens}
 use Rattle.jl_model.specs.JsonStrings.{hex_value}
+use Rattle.jl_nquads.specs.Spots.{not_end}
 use Rattle.jl_nquads.proofs.Deciding.{hex_below}
-use Rattle.jl_nquads.proofs.Tags.{is_tag_byte, tag_bytes, other_ends}
+use Rattle.jl_nquads.proofs.TagBytes.{is_tag_byte, tag_bytes, other_ends}
 use Rattle.jl_nquads.proofs.TokenBodies.{at_below, all_below, letter_low}
-
-abbrev pub not_end : ℕ → Bool
-not_end c = not (is_line_end c)
 
 -- a test that holds of all bytes beyond ASCII, and of the character where it is one of ASCII
 pub encode_all : (f : ℕ → Bool) (c : ℕ) → ((b : ℕ) → 128 ≤ b → IsTrue (f b)) → (c < 128 → IsTrue (f c)) → IsTrue (list_all f (encode c))

@@ -36,13 +36,13 @@ unfolding utf8_valid_len
 valid_is_most bs m l u = most_up_to bs (length bs) m l u
 
 -- a front of a front
-take_take : (m n : ℕ) (xs : List ℕ) → m ≤ n → take m (take n xs) ≡ take m xs
+pub take_take : (m n : ℕ) (xs : List ℕ) → m ≤ n → take m (take n xs) ≡ take m xs
 take_take zero n xs l = refl
 take_take (suc m) zero xs l = absurd (let z : ⊥ = omega (arith, l) in z)
 take_take (suc m) (suc n) [] l = refl
 take_take (suc m) (suc n) (x ∷ xs) l = ap (λ z. x ∷ z) (take_take m n xs (omega (arith, l)))
 
-scalar_is : (c : ℕ) → IsTrue (scalar c) → IsUtf8 (encode c)
+pub scalar_is : (c : ℕ) → IsTrue (scalar c) → IsUtf8 (encode c)
 scalar_is c h = (c ∷ [], (and_from (scalar c) true h refl, append-nil (encode c)))
 
 -- the sign or the backslash is ASCII

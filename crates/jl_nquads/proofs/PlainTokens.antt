@@ -11,7 +11,7 @@ use Rattle.jl_nquads.specs.Spots.{Spot, leads_to, goes, said, Breaks, BreaksInsi
 use Rattle.jl_nquads.proofs.NoLineEnds.{end_is, is_inside}
 use Rattle.jl_nquads.proofs.SpotRows.{head_is_token, head_ends, ends_same}
 use Rattle.jl_nquads.proofs.SpotSteps.{Alone, Joins, whole_at_line_end}
-use Rattle.jl_nquads.proofs.Tags.{tag_ends, tag_goes, ends_go, front_goes, goes_tag, is_tag_byte, other_ends}
+use Rattle.jl_nquads.proofs.TagBytes.{tag_ends, tag_goes, ends_go, front_goes, goes_tag, is_tag_byte, other_ends}
 use Rattle.jl_nquads.proofs.Texts.{head_is, tail_is, fronts_of}
 use Rattle.jl_nquads.proofs.TokenBreaks.{Opens, Fronts, NoneIn, NoToken, none_in, breaks_within, none_left, token_unfinished}
 

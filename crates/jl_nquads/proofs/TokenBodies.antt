@@ -93,7 +93,7 @@ iri_stands (four ds) h = h
 iri_stands (eight ds) h = h
 
 -- the character c, where each of its bytes may stand in an IRI
-byte_stands : (c : ℕ) → IsTrue (list_all is_iri_byte (encode c)) → IsTrue (is_iri_byte c)
+pub byte_stands : (c : ℕ) → IsTrue (list_all is_iri_byte (encode c)) → IsTrue (is_iri_byte c)
 byte_stands c h = elim (cases_lt c 128) [
   | inl l ↦ (and_parts (is_iri_byte c) true (ap (list_all is_iri_byte) (sym (encode_ascii c l)) ∙ h)).0
   | inr l ↦ high_iri c l

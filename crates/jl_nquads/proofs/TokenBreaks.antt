@@ -5,8 +5,8 @@ use Rattle.std.proofs.lemmas.List.Folds.{list_all-append}
 use Rattle.std.specs.List.{list_all}
 use Rattle.jl_model.specs.Parts.{Parts}
 use Rattle.jl_model.specs.LineTokens.{LineToken, token_bytes, is_token, ends_before, is_row, bytes_of, is_line_end}
-use Rattle.jl_nquads.specs.Spots.{Spot, leads_to, goes, said, Left, Begins, StandsAt, Reaches, Breaks, BreaksInside, BreaksAtEnd}
-use Rattle.jl_nquads.proofs.NoLineEnds.{not_end, is_inside, token_no_end, end_is}
+use Rattle.jl_nquads.specs.Spots.{Spot, leads_to, goes, said, Left, Begins, StandsAt, Reaches, Breaks, BreaksInside, BreaksAtEnd, not_end}
+use Rattle.jl_nquads.proofs.NoLineEnds.{is_inside, token_no_end, end_is}
 use Rattle.jl_nquads.proofs.SpotRows.{goes_on, row_from, ends_at_end, head_is_token, head_ends, tail_is_row, goes_where, said_where}
 use Rattle.jl_nquads.proofs.Texts.{head_is, tail_is, fronts_of, turns}
 

@@ -9,3 +9,10 @@ pub mod CodePoints
 pub mod EndedLines
 pub mod EscapesRead
 pub mod CharactersRead
+pub mod LinesRead
+pub mod LineStates
+pub mod LineReading
+pub mod LineSteps
+pub mod Renamed
+pub mod Laws
+pub mod Unframed

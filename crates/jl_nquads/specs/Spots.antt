@@ -1,5 +1,5 @@
 -- Where in a line tokens stand, and what the line says in the end. Only private clauses cite this.
-use Rattle.std.specs.Prelude.{◌≡◌, ℕ, ◌+◌, ◌≤◌, Bool, true, false, List, [], ◌∷◌, ◌++◌, length, Option, Some, None, IsTrue}
+use Rattle.std.specs.Prelude.{◌≡◌, ℕ, ◌+◌, ◌≤◌, Bool, true, false, not, List, [], ◌∷◌, ◌++◌, length, Option, Some, None, IsTrue}
 use lib.Utf8.{encodes}
 use Rattle.jl_model.specs.Parts.{Parts, parts_of, rdf_lang_string, xsd_string}
 use Rattle.jl_model.specs.Ren.{ren}
@@ -23,6 +23,10 @@ pub data Spot : Type 0 where
 
 abbrev pub literal_of : List ℕ → List ℕ → Option (List ℕ) → Term
 literal_of text datatype language = Literal (record { text = text; datatype = datatype; language = language })
+
+-- a byte that ends no line
+abbrev pub not_end : ℕ → Bool
+not_end c = not (is_line_end c)
 
 -- where a token leads
 abbrev pub leads_to : Spot → LineToken → Option Spot

@@ -65,8 +65,10 @@ impl<'a, B: ByteOut> QuadOut for LineOut<'a, B> {
     /// Puts the line of the quad. It takes no memory.
     fn put(&mut self, quad: &Quad) -> Result<(), OutStop>
         // What it puts.
-        ensures line { OnOk result (B.written self.new.out.now ≡ appended (B.written self.old.out.now) (line quad.now)) }
-        ensures cut { OnErr result (PutsFront (B.written self.old.out.now) (line quad.now) (B.written self.new.out.now)) }
+        ensures line { OnOk result (B.written self.new.out.now ≡ appended
+            (B.written self.old.out.now) (line quad.now)) }
+        ensures cut { OnErr result (PutsFront (B.written self.old.out.now) (line quad.now)
+            (B.written self.new.out.now)) }
         ensures untouched { self.old.failed ≡ true → self.new.out.now ≡ self.old.out.now }
 
         // What it answers, and what it counts.
@@ -75,10 +77,16 @@ impl<'a, B: ByteOut> QuadOut for LineOut<'a, B> {
         ensures refused { self.new.refused ≡ refused_after self.old.failed self.old.refused }
 
         // What every out of quads promises.
-        ensures put { OnOk result ((quads : List Parts) → IfSome (B.written self.old.out.now) (TellsLines self.old.failed quads) → IfSome (B.written self.new.out.now) (TellsLines self.new.failed (quads ++ quad.now ∷ []))) }
-        ensures unput { OnErr result ((quads : List Parts) → IfSome (B.written self.old.out.now) (TellsLines self.old.failed quads) → IfSome (B.written self.new.out.now) (TellsLines self.new.failed quads)) }
-        ensures cause { HasCause (B.put_faults self.old.out.now + self.old.refused) (B.put_faults self.new.out.now + self.new.refused) (IsErrOf result OutStop.Failed) }
-        ensures beside { (self.new.out.ghost_name ≡ self.old.out.ghost_name) × B.beside self.old.out.now self.new.out.now
+        ensures put { OnOk result ((quads : List Parts) → IfSome (B.written self.old.out.now)
+            (TellsLines self.old.failed quads) → IfSome (B.written self.new.out.now)
+            (TellsLines self.new.failed (quads ++ quad.now ∷ []))) }
+        ensures unput { OnErr result ((quads : List Parts) → IfSome (B.written self.old.out.now)
+            (TellsLines self.old.failed quads) → IfSome (B.written self.new.out.now)
+            (TellsLines self.new.failed quads)) }
+        ensures cause { HasCause (B.put_faults self.old.out.now + self.old.refused)
+            (B.put_faults self.new.out.now + self.new.refused) (IsErrOf result OutStop.Failed) }
+        ensures beside { (self.new.out.ghost_name ≡ self.old.out.ghost_name) × B.beside
+            self.old.out.now self.new.out.now
             × FailsByCount self.old.failed self.new.failed (B.put_faults self.old.out.now) (B.put_faults self.new.out.now) self.old.refused self.new.refused
             × CountsTold self.old.failed self.new.failed self.old.lines self.new.lines (B.written self.old.out.now) (B.written self.new.out.now) }
     {

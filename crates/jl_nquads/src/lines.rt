@@ -35,8 +35,11 @@ fn put_line<B: ByteOut>(
     graph: Option<&Term>,
     out: &mut B,
 ) -> Result<(), Failed>
-    ensures put { OnOk result (B.written out.new ≡ appended (B.written out.old) (line (parts_of subject.now predicate.now object.now (option_copied graph.entry)))) }
-    ensures cut { OnErr result (PutsFront (B.written out.old) (line (parts_of subject.now predicate.now object.now (option_copied graph.entry))) (B.written out.new)) }
+    ensures put { OnOk result (B.written out.new ≡ appended (B.written out.old)
+        (line (parts_of subject.now predicate.now object.now (option_copied graph.entry)))) }
+    ensures cut { OnErr result (PutsFront (B.written out.old)
+        (line (parts_of subject.now predicate.now object.now (option_copied graph.entry)))
+        (B.written out.new)) }
     ensures cause { HasCause (B.put_faults out.old) (B.put_faults out.new) (IsErr result) }
     ensures beside { B.beside out.old out.new }
 {
@@ -53,8 +56,10 @@ fn put_triple<B: ByteOut>(
     object: &Term,
     out: &mut B,
 ) -> Result<(), Failed>
-    ensures put { OnOk result (B.written out.new ≡ appended (B.written out.old) (line (parts_of subject.now predicate.now object.now None))) }
-    ensures cut { OnErr result (PutsFront (B.written out.old) (line (parts_of subject.now predicate.now object.now None)) (B.written out.new)) }
+    ensures put { OnOk result (B.written out.new ≡ appended (B.written out.old)
+        (line (parts_of subject.now predicate.now object.now None))) }
+    ensures cut { OnErr result (PutsFront (B.written out.old)
+        (line (parts_of subject.now predicate.now object.now None)) (B.written out.new)) }
     ensures cause { HasCause (B.put_faults out.old) (B.put_faults out.new) (IsErr result) }
     ensures beside { B.beside out.old out.new }
 {
@@ -79,8 +84,11 @@ fn put_framed<B: ByteOut>(
     object: &[u8],
     out: &mut B,
 ) -> Result<(), Failed>
-    ensures put { OnOk result (B.written out.new ≡ appended (B.written out.old) (triple_line (framed sign subject.now) predicate.now (framed object_sign object.now))) }
-    ensures cut { OnErr result (PutsFront (B.written out.old) (triple_line (framed sign subject.now) predicate.now (framed object_sign object.now)) (B.written out.new)) }
+    ensures put { OnOk result (B.written out.new ≡ appended (B.written out.old)
+        (triple_line (framed sign subject.now) predicate.now (framed object_sign object.now))) }
+    ensures cut { OnErr result (PutsFront (B.written out.old)
+        (triple_line (framed sign subject.now) predicate.now (framed object_sign object.now))
+        (B.written out.new)) }
     ensures cause { HasCause (B.put_faults out.old) (B.put_faults out.new) (IsErr result) }
     ensures beside { B.beside out.old out.new }
 {
@@ -110,8 +118,11 @@ fn put_typed<B: ByteOut>(
     datatype: &[u8],
     out: &mut B,
 ) -> Result<(), Failed>
-    ensures put { OnOk result (B.written out.new ≡ appended (B.written out.old) (triple_line (framed sign subject.now) predicate.now (typed text.now datatype.now))) }
-    ensures cut { OnErr result (PutsFront (B.written out.old) (triple_line (framed sign subject.now) predicate.now (typed text.now datatype.now)) (B.written out.new)) }
+    ensures put { OnOk result (B.written out.new ≡ appended (B.written out.old)
+        (triple_line (framed sign subject.now) predicate.now (typed text.now datatype.now))) }
+    ensures cut { OnErr result (PutsFront (B.written out.old)
+        (triple_line (framed sign subject.now) predicate.now (typed text.now datatype.now))
+        (B.written out.new)) }
     ensures cause { HasCause (B.put_faults out.old) (B.put_faults out.new) (IsErr result) }
     ensures beside { B.beside out.old out.new }
 {
@@ -140,8 +151,11 @@ fn put_terms<B: ByteOut>(
     graph: Option<&Term>,
     out: &mut B,
 ) -> Result<(), Failed>
-    ensures put { OnOk result (B.written out.new ≡ appended (B.written out.old) (line (parts_of subject.now predicate.now object.now (option_copied graph.entry)))) }
-    ensures cut { OnErr result (PutsFront (B.written out.old) (line (parts_of subject.now predicate.now object.now (option_copied graph.entry))) (B.written out.new)) }
+    ensures put { OnOk result (B.written out.new ≡ appended (B.written out.old)
+        (line (parts_of subject.now predicate.now object.now (option_copied graph.entry)))) }
+    ensures cut { OnErr result (PutsFront (B.written out.old)
+        (line (parts_of subject.now predicate.now object.now (option_copied graph.entry)))
+        (B.written out.new)) }
     ensures cause { HasCause (B.put_faults out.old) (B.put_faults out.new) (IsErr result) }
     ensures beside { B.beside out.old out.new }
 {
@@ -154,8 +168,10 @@ fn put_terms<B: ByteOut>(
 
 /// Puts a term and the space behind it.
 fn put_spaced<B: ByteOut>(term: &Term, out: &mut B) -> Result<(), Failed>
-    ensures put { OnOk result (B.written out.new ≡ appended (B.written out.old) (spaced (term_text term.now))) }
-    ensures cut { OnErr result (PutsFront (B.written out.old) (spaced (term_text term.now)) (B.written out.new)) }
+    ensures put { OnOk result (B.written out.new ≡ appended (B.written out.old)
+        (spaced (term_text term.now))) }
+    ensures cut { OnErr result (PutsFront (B.written out.old) (spaced (term_text term.now))
+        (B.written out.new)) }
     ensures cause { HasCause (B.put_faults out.old) (B.put_faults out.new) (IsErr result) }
     ensures beside { B.beside out.old out.new }
 {
@@ -167,8 +183,10 @@ fn put_spaced<B: ByteOut>(term: &Term, out: &mut B) -> Result<(), Failed>
 }
 
 fn put_spaced_iri<B: ByteOut>(iri: &[u8], out: &mut B) -> Result<(), Failed>
-    ensures put { OnOk result (B.written out.new ≡ appended (B.written out.old) (spaced (iri_text iri.now))) }
-    ensures cut { OnErr result (PutsFront (B.written out.old) (spaced (iri_text iri.now)) (B.written out.new)) }
+    ensures put { OnOk result (B.written out.new ≡ appended (B.written out.old)
+        (spaced (iri_text iri.now))) }
+    ensures cut { OnErr result (PutsFront (B.written out.old) (spaced (iri_text iri.now))
+        (B.written out.new)) }
     ensures cause { HasCause (B.put_faults out.old) (B.put_faults out.new) (IsErr result) }
     ensures beside { B.beside out.old out.new }
 {
@@ -176,8 +194,10 @@ fn put_spaced_iri<B: ByteOut>(iri: &[u8], out: &mut B) -> Result<(), Failed>
 }
 
 fn put_graph<B: ByteOut>(graph: Option<&Term>, out: &mut B) -> Result<(), Failed>
-    ensures put { OnOk result (B.written out.new ≡ appended (B.written out.old) (graph_text (option_copied graph.entry))) }
-    ensures cut { OnErr result (PutsFront (B.written out.old) (graph_text (option_copied graph.entry)) (B.written out.new)) }
+    ensures put { OnOk result (B.written out.new ≡ appended (B.written out.old)
+        (graph_text (option_copied graph.entry))) }
+    ensures cut { OnErr result (PutsFront (B.written out.old)
+        (graph_text (option_copied graph.entry)) (B.written out.new)) }
     ensures cause { HasCause (B.put_faults out.old) (B.put_faults out.new) (IsErr result) }
     ensures beside { B.beside out.old out.new }
 {
@@ -194,8 +214,20 @@ fn put_lit<B: ByteOut>(
     language: &Option<Text>,
     out: &mut B,
 ) -> Result<(), Failed>
-    ensures put { OnOk result (B.written out.new ≡ appended (B.written out.old) (spaced (lit_text (record { text = text.now; datatype = datatype.now; language = language.now })))) }
-    ensures cut { OnErr result (PutsFront (B.written out.old) (spaced (lit_text (record { text = text.now; datatype = datatype.now; language = language.now }))) (B.written out.new)) }
+    ensures put { OnOk result (B.written out.new ≡ appended (B.written out.old)
+        (spaced (lit_text (record {
+          text = text.now;
+          datatype = datatype.now;
+          language =
+              language.now;
+        })))) }
+    ensures cut { OnErr result (PutsFront (B.written out.old)
+        (spaced (lit_text (record {
+          text = text.now;
+          datatype = datatype.now;
+          language =
+              language.now;
+        }))) (B.written out.new)) }
     ensures cause { HasCause (B.put_faults out.old) (B.put_faults out.new) (IsErr result) }
     ensures beside { B.beside out.old out.new }
 {
@@ -210,8 +242,10 @@ fn put_ending<B: ByteOut>(
     language: &Option<Text>,
     out: &mut B,
 ) -> Result<(), Failed>
-    ensures put { OnOk result (B.written out.new ≡ appended (B.written out.old) (ending datatype.now language.now)) }
-    ensures cut { OnErr result (PutsFront (B.written out.old) (ending datatype.now language.now) (B.written out.new)) }
+    ensures put { OnOk result (B.written out.new ≡ appended (B.written out.old)
+        (ending datatype.now language.now)) }
+    ensures cut { OnErr result (PutsFront (B.written out.old) (ending datatype.now language.now)
+        (B.written out.new)) }
     ensures cause { HasCause (B.put_faults out.old) (B.put_faults out.new) (IsErr result) }
     ensures beside { B.beside out.old out.new }
 {
@@ -222,8 +256,10 @@ fn put_ending<B: ByteOut>(
 }
 
 fn put_datatype<B: ByteOut>(datatype: &[u8], out: &mut B) -> Result<(), Failed>
-    ensures put { OnOk result (B.written out.new ≡ appended (B.written out.old) (ending datatype.now None)) }
-    ensures cut { OnErr result (PutsFront (B.written out.old) (ending datatype.now None) (B.written out.new)) }
+    ensures put { OnOk result (B.written out.new ≡ appended (B.written out.old)
+        (ending datatype.now None)) }
+    ensures cut { OnErr result (PutsFront (B.written out.old) (ending datatype.now None)
+        (B.written out.new)) }
     ensures cause { HasCause (B.put_faults out.old) (B.put_faults out.new) (IsErr result) }
     ensures beside { B.beside out.old out.new }
 {
@@ -237,8 +273,10 @@ fn put_datatype<B: ByteOut>(datatype: &[u8], out: &mut B) -> Result<(), Failed>
 /// Puts a literal's string with its escapes.
 #[tactic(auto, using(crate::proofs::EscapeRuns::escaped_cut))]
 fn put_escaped<B: ByteOut>(text: &[u8], out: &mut B) -> Result<(), Failed>
-    ensures put { OnOk result (B.written out.new ≡ appended (B.written out.old) (flat_map escaped text.now)) }
-    ensures cut { OnErr result (PutsFront (B.written out.old) (flat_map escaped text.now) (B.written out.new)) }
+    ensures put { OnOk result (B.written out.new ≡ appended (B.written out.old)
+        (flat_map escaped text.now)) }
+    ensures cut { OnErr result (PutsFront (B.written out.old) (flat_map escaped text.now)
+        (B.written out.new)) }
     ensures cause { HasCause (B.put_faults out.old) (B.put_faults out.new) (IsErr result) }
     ensures beside { B.beside out.old out.new }
 {
@@ -256,8 +294,10 @@ fn put_run<B: ByteOut>(text: &[u8], out: &mut B) -> Result<usize, Failed>
     requires { 0 < length text.now }
     ensures some { IfOk result (λ n. 0 < n) }
     ensures within { IfOk result (λ n. n ≤ length text.now) }
-    ensures put { IfOk result (λ n. B.written out.new ≡ appended (B.written out.old) (flat_map escaped (take n text.now))) }
-    ensures cut { OnErr result (PutsFront (B.written out.old) (flat_map escaped text.now) (B.written out.new)) }
+    ensures put { IfOk result (λ n. B.written out.new ≡ appended (B.written out.old)
+        (flat_map escaped (take n text.now))) }
+    ensures cut { OnErr result (PutsFront (B.written out.old) (flat_map escaped text.now)
+        (B.written out.new)) }
     ensures cause { HasCause (B.put_faults out.old) (B.put_faults out.new) (IsErr result) }
     ensures beside { B.beside out.old out.new }
 {
