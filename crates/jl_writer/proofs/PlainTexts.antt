@@ -118,7 +118,7 @@ some_parts ((c ∷ cs) ∷ parts) h =
     let both = and_parts (is_ascii_alphanumeric c && list_all is_ascii_alphanumeric cs) (list_all (is_some_of is_ascii_alphanumeric) parts) h in
     and_true both.0 (some_parts parts both.1)
 
-subtags_parts : (parts : List (List ℕ)) → are_subtags parts ≡ true → list_all (list_all is_ascii_alphanumeric) parts ≡ true
+pub subtags_parts : (parts : List (List ℕ)) → are_subtags parts ≡ true → list_all (list_all is_ascii_alphanumeric) parts ≡ true
 subtags_parts [] h = refl
 subtags_parts (first ∷ others) h =
     let both = and_parts (is_some_of is_ascii_alphabetic first) (list_all (is_some_of is_ascii_alphanumeric) others) h in

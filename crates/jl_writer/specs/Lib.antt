@@ -1,4 +1,5 @@
 pub mod Escapes
+pub mod Laws
 pub mod Steps
 pub mod Weights
 pub mod Writing

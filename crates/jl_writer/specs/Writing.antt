@@ -43,7 +43,9 @@ abbrev pub StaysStopped : Option WriteStop → Result (Unit {0}) WriteStop → T
 StaysStopped None result Unchanged = Unit {0}
 StaysStopped (Some stop) result Unchanged = (result ≡ Err stop) × Unchanged
 
--- the count of the out's faults hasn't fallen, and a fault of the out is answered only where it rose or the writer had stopped so before
+-- the count of the out's faults hasn't fallen; a fault of the out is answered only where it rose or the writer had stopped so
+-- before, and at every other answer it is the same
 pub record FaultHasCause (before now : ℕ) (stopped : Option WriteStop) (result : Result (Unit {0}) WriteStop) : Type 0 where
   pub later : before ≤ now
   pub out_fault : result ≡ Err OutFault → Rose before now ⊎ (stopped ≡ Some OutFault)
+  pub others : (result ≡ Err OutFault → ⊥) → now ≡ before

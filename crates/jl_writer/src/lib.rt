@@ -1,6 +1,7 @@
 //! JSON-LD in the streaming form, written from quads while they come.
 #![tactic(auto)]
 
+mod laws;
 mod names;
 mod next;
 mod nodes;
@@ -13,6 +14,7 @@ mod tests;
 mod values;
 mod writer;
 
+pub use laws::law_text;
 pub use open_nodes::OpenNode;
 pub use predicates::Predicates;
 pub use writer::{WriteStop, Writer};

@@ -24,8 +24,10 @@ pub(crate) fn put_step<B: ByteOut>(
     out: &mut B,
 ) -> Result<(), Failed>
     requires { IsMadeFor made.now quad.now.object }
-    ensures put { OnOk result (B.written out.new ≡ appended (B.written out.old) (begun quad.now step)) }
-    ensures cut { OnErr result (PutsFront (B.written out.old) (begun quad.now step) (B.written out.new)) }
+    ensures put { OnOk result (B.written out.new ≡ appended (B.written out.old)
+        (begun quad.now step)) }
+    ensures cut { OnErr result (PutsFront (B.written out.old) (begun quad.now step)
+        (B.written out.new)) }
     ensures cause { HasCause (B.put_faults out.old) (B.put_faults out.new) (IsErr result) }
     ensures beside { B.beside out.old out.new }
 {
@@ -49,8 +51,10 @@ fn put_member<B: ByteOut>(
     requires predicate { IsIri predicate.now }
     requires object { IsObject object.now }
     requires made { IsMadeFor made.now object.now }
-    ensures put { OnOk result (B.written out.new ≡ appended (B.written out.old) (member_of predicate.now object.now)) }
-    ensures cut { OnErr result (PutsFront (B.written out.old) (member_of predicate.now object.now) (B.written out.new)) }
+    ensures put { OnOk result (B.written out.new ≡ appended (B.written out.old)
+        (member_of predicate.now object.now)) }
+    ensures cut { OnErr result (PutsFront (B.written out.old) (member_of predicate.now object.now)
+        (B.written out.new)) }
     ensures cause { HasCause (B.put_faults out.old) (B.put_faults out.new) (IsErr result) }
     ensures beside { B.beside out.old out.new }
 {
@@ -70,8 +74,10 @@ fn put_node<B: ByteOut>(
     requires predicate { IsIri predicate.now }
     requires object { IsObject object.now }
     requires made { IsMadeFor made.now object.now }
-    ensures put { OnOk result (B.written out.new ≡ appended (B.written out.old) (node_of subject.now predicate.now object.now)) }
-    ensures cut { OnErr result (PutsFront (B.written out.old) (node_of subject.now predicate.now object.now) (B.written out.new)) }
+    ensures put { OnOk result (B.written out.new ≡ appended (B.written out.old)
+        (node_of subject.now predicate.now object.now)) }
+    ensures cut { OnErr result (PutsFront (B.written out.old)
+        (node_of subject.now predicate.now object.now) (B.written out.new)) }
     ensures cause { HasCause (B.put_faults out.old) (B.put_faults out.new) (IsErr result) }
     ensures beside { B.beside out.old out.new }
 {
@@ -94,8 +100,12 @@ fn put_item<B: ByteOut>(
     requires predicate { IsIri predicate.now }
     requires object { IsObject object.now }
     requires made { IsMadeFor made.now object.now }
-    ensures put { OnOk result (B.written out.new ≡ appended (B.written out.old) (spec.item_text (parts_of subject.now predicate.now object.now (option_copied graph.entry)))) }
-    ensures cut { OnErr result (PutsFront (B.written out.old) (spec.item_text (parts_of subject.now predicate.now object.now (option_copied graph.entry))) (B.written out.new)) }
+    ensures put { OnOk result (B.written out.new ≡ appended (B.written out.old)
+        (spec.item_text (parts_of subject.now predicate.now object.now
+        (option_copied graph.entry)))) }
+    ensures cut { OnErr result (PutsFront (B.written out.old)
+        (spec.item_text (parts_of subject.now predicate.now object.now (option_copied graph.entry)))
+        (B.written out.new)) }
     ensures cause { HasCause (B.put_faults out.old) (B.put_faults out.new) (IsErr result) }
     ensures beside { B.beside out.old out.new }
 {
@@ -119,8 +129,10 @@ fn put_graph<B: ByteOut>(
     requires predicate { IsIri predicate.now }
     requires object { IsObject object.now }
     requires made { IsMadeFor made.now object.now }
-    ensures put { OnOk result (B.written out.new ≡ appended (B.written out.old) (graph_of graph.now (node_of subject.now predicate.now object.now))) }
-    ensures cut { OnErr result (PutsFront (B.written out.old) (graph_of graph.now (node_of subject.now predicate.now object.now)) (B.written out.new)) }
+    ensures put { OnOk result (B.written out.new ≡ appended (B.written out.old)
+        (graph_of graph.now (node_of subject.now predicate.now object.now))) }
+    ensures cut { OnErr result (PutsFront (B.written out.old)
+        (graph_of graph.now (node_of subject.now predicate.now object.now)) (B.written out.new)) }
     ensures cause { HasCause (B.put_faults out.old) (B.put_faults out.new) (IsErr result) }
     ensures beside { B.beside out.old out.new }
 {

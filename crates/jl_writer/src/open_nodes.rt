@@ -40,14 +40,16 @@ impl OpenNode {
 
     /// Adds a predicate.
     pub(crate) fn add(&mut self, alloc: Global, predicate: &Text) -> Result<(), NoMemory>
-        ensures { OnOk result (opened self.new ≡ record (opened self.old) { used = predicate.now ∷ self.old.used }) }
+        ensures { OnOk result (opened self.new ≡ record (opened self.old)
+            { used = predicate.now ∷ self.old.used }) }
     {
         self.used.add(predicate.copy(alloc)?)
     }
 
     /// Becomes the node of the same graph that the quad begins.
     pub(crate) fn turn_to(&mut self, alloc: Global, quad: &Quad) -> Result<(), NoMemory>
-        ensures { OnOk result (opened self.new ≡ record (spec.begins_node quad.now) { graph = self.old.graph }) }
+        ensures { OnOk result (opened self.new ≡ record (spec.begins_node quad.now)
+            { graph = self.old.graph }) }
     {
         self.subject = quad.subject().copy(alloc)?;
         self.used = Predicates::one(alloc, quad.predicate())?;

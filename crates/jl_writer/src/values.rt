@@ -23,8 +23,10 @@ pub(crate) fn put_value<B: ByteOut>(
 ) -> Result<(), Failed>
     requires formed { IsObject object.now }
     requires made { IsMadeFor made.now object.now }
-    ensures put { OnOk result (B.written out.new ≡ appended (B.written out.old) (spec.value_text object.now)) }
-    ensures cut { OnErr result (PutsFront (B.written out.old) (spec.value_text object.now) (B.written out.new)) }
+    ensures put { OnOk result (B.written out.new ≡ appended (B.written out.old)
+        (spec.value_text object.now)) }
+    ensures cut { OnErr result (PutsFront (B.written out.old) (spec.value_text object.now)
+        (B.written out.new)) }
     ensures cause { HasCause (B.put_faults out.old) (B.put_faults out.new) (IsErr result) }
     ensures beside { B.beside out.old out.new }
 {
@@ -36,8 +38,10 @@ pub(crate) fn put_value<B: ByteOut>(
 
 fn put_reference<B: ByteOut>(name: &Term, out: &mut B) -> Result<(), Failed>
     requires { IsNode name.now }
-    ensures put { OnOk result (B.written out.new ≡ appended (B.written out.old) (spec.value_text name.now)) }
-    ensures cut { OnErr result (PutsFront (B.written out.old) (spec.value_text name.now) (B.written out.new)) }
+    ensures put { OnOk result (B.written out.new ≡ appended (B.written out.old)
+        (spec.value_text name.now)) }
+    ensures cut { OnErr result (PutsFront (B.written out.old) (spec.value_text name.now)
+        (B.written out.new)) }
     ensures cause { HasCause (B.put_faults out.old) (B.put_faults out.new) (IsErr result) }
     ensures beside { B.beside out.old out.new }
 {
@@ -48,8 +52,10 @@ fn put_reference<B: ByteOut>(name: &Term, out: &mut B) -> Result<(), Failed>
 fn put_literal<B: ByteOut>(lit: &Lit, made: &Option<Text>, out: &mut B) -> Result<(), Failed>
     requires formed { IsLit lit.now }
     requires made { IsStringOf made.now lit.now.text }
-    ensures put { OnOk result (B.written out.new ≡ appended (B.written out.old) (spec.literal_value lit.now)) }
-    ensures cut { OnErr result (PutsFront (B.written out.old) (spec.literal_value lit.now) (B.written out.new)) }
+    ensures put { OnOk result (B.written out.new ≡ appended (B.written out.old)
+        (spec.literal_value lit.now)) }
+    ensures cut { OnErr result (PutsFront (B.written out.old) (spec.literal_value lit.now)
+        (B.written out.new)) }
     ensures cause { HasCause (B.put_faults out.old) (B.put_faults out.new) (IsErr result) }
     ensures beside { B.beside out.old out.new }
 {
@@ -63,8 +69,10 @@ fn put_literal<B: ByteOut>(lit: &Lit, made: &Option<Text>, out: &mut B) -> Resul
 /// Puts a literal with a language.
 fn put_tagged<B: ByteOut>(tag: &[u8], quote: &[u8], text: &[u8], out: &mut B) -> Result<(), Failed>
     requires { IsTrue (is_language_tag tag.now) }
-    ensures put { OnOk result (B.written out.new ≡ appended (B.written out.old) (tagged_value tag.now (quote.now ++ text.now ++ quote.now))) }
-    ensures cut { OnErr result (PutsFront (B.written out.old) (tagged_value tag.now (quote.now ++ text.now ++ quote.now)) (B.written out.new)) }
+    ensures put { OnOk result (B.written out.new ≡ appended (B.written out.old)
+        (tagged_value tag.now (quote.now ++ text.now ++ quote.now))) }
+    ensures cut { OnErr result (PutsFront (B.written out.old)
+        (tagged_value tag.now (quote.now ++ text.now ++ quote.now)) (B.written out.new)) }
     ensures cause { HasCause (B.put_faults out.old) (B.put_faults out.new) (IsErr result) }
     ensures beside { B.beside out.old out.new }
 {
@@ -90,8 +98,10 @@ fn put_typed<B: ByteOut>(
     out: &mut B,
 ) -> Result<(), Failed>
     requires { IsIri datatype.now }
-    ensures put { OnOk result (B.written out.new ≡ appended (B.written out.old) (untagged_value datatype.now (quote.now ++ text.now ++ quote.now))) }
-    ensures cut { OnErr result (PutsFront (B.written out.old) (untagged_value datatype.now (quote.now ++ text.now ++ quote.now)) (B.written out.new)) }
+    ensures put { OnOk result (B.written out.new ≡ appended (B.written out.old)
+        (untagged_value datatype.now (quote.now ++ text.now ++ quote.now))) }
+    ensures cut { OnErr result (PutsFront (B.written out.old)
+        (untagged_value datatype.now (quote.now ++ text.now ++ quote.now)) (B.written out.new)) }
     ensures cause { HasCause (B.put_faults out.old) (B.put_faults out.new) (IsErr result) }
     ensures beside { B.beside out.old out.new }
 {

@@ -82,9 +82,11 @@ impl Writer {
             PutsFront before (spec.writer_text (quads ++ quad.now ∷ [])) (B.written out.new))) }
 
         // Errors, and what stays after one.
-        ensures cause { FaultHasCause (B.put_faults out.old) (B.put_faults out.new) self.old.stopped result }
+        ensures cause { FaultHasCause (B.put_faults out.old) (B.put_faults out.new) self.old.stopped
+            result }
         ensures stops { self.new.stopped ≡ stop_of result }
-        ensures again { StaysStopped self.old.stopped result ((self.new ≡ self.old) × (out.new ≡ out.old)) }
+        ensures again { StaysStopped self.old.stopped result
+            ((self.new ≡ self.old) × (out.new ≡ out.old)) }
         ensures beside { B.beside out.old out.new }
     {
         if let Some(stop) = self.stopped {
@@ -100,14 +102,17 @@ impl Writer {
         // What it puts.
         ensures text { OnOk result (IfOpen self.old (B.written out.old) (λ before quads.
             B.written out.new ≡ appended before (spec.writer_text quads))) }
-        ensures anew { OnOk result ((before : Option (List ℕ)) → IsOpen before self.new [] before) }
+        ensures anew { OnOk result ((before : Option (List ℕ)) → IsOpen before self.new []
+            before) }
         ensures cut { OnErr result (IfOpen self.old (B.written out.old) (λ before quads.
             PutsFront before (spec.writer_text quads) (B.written out.new))) }
 
         // Errors, and what stays after one.
-        ensures cause { FaultHasCause (B.put_faults out.old) (B.put_faults out.new) self.old.stopped result }
+        ensures cause { FaultHasCause (B.put_faults out.old) (B.put_faults out.new) self.old.stopped
+            result }
         ensures stops { self.new.stopped ≡ stop_of result }
-        ensures again { StaysStopped self.old.stopped result ((self.new ≡ self.old) × (out.new ≡ out.old)) }
+        ensures again { StaysStopped self.old.stopped result
+            ((self.new ≡ self.old) × (out.new ≡ out.old)) }
         ensures beside { B.beside out.old out.new }
     {
         if let Some(stop) = self.stopped {
@@ -141,11 +146,15 @@ impl Writer {
     /// Puts what a quad adds to the text, while the writer hasn't stopped.
     fn add<B: ByteOut>(&mut self, quad: &Quad, out: &mut B) -> Result<(), WriteStop>
         requires { self.old.stopped ≡ None }
-        ensures text { OnOk result (B.written out.new ≡ appended (B.written out.old) (added_text (opened_if self.old.node) quad.now)) }
-        ensures node { OnOk result (opened_if self.new.node ≡ Some (node_after (opened_if self.old.node) quad.now)) }
+        ensures text { OnOk result (B.written out.new ≡ appended (B.written out.old)
+            (added_text (opened_if self.old.node) quad.now)) }
+        ensures node { OnOk result (opened_if self.new.node ≡ Some
+            (node_after (opened_if self.old.node) quad.now)) }
         ensures goes_on { self.new.stopped ≡ None }
-        ensures cut { OnErr result (PutsFront (B.written out.old) (added_text (opened_if self.old.node) quad.now) (B.written out.new)) }
-        ensures cause { counts.HasCause (B.put_faults out.old) (B.put_faults out.new) (IsErrOf result WriteStop.OutFault) }
+        ensures cut { OnErr result (PutsFront (B.written out.old)
+            (added_text (opened_if self.old.node) quad.now) (B.written out.new)) }
+        ensures cause { counts.HasCause (B.put_faults out.old) (B.put_faults out.new)
+            (IsErrOf result WriteStop.OutFault) }
         ensures beside { B.beside out.old out.new }
     {
         let made = made_for(self.alloc, quad.object())?;
@@ -190,7 +199,8 @@ impl Writer {
     /// Opens the node that the quad stands in, or goes on with it.
     fn go_on(&mut self, step: Step, quad: &Quad) -> Result<(), NoMemory>
         requires { IsStep (opened_if self.old.node) quad.now step }
-        ensures node { OnOk result (opened_if self.new.node ≡ Some (node_after (opened_if self.old.node) quad.now)) }
+        ensures node { OnOk result (opened_if self.new.node ≡ Some
+            (node_after (opened_if self.old.node) quad.now)) }
         ensures stopped { self.new.stopped ≡ self.old.stopped }
     {
         match (step, &mut self.node) {
