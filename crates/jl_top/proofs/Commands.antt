@@ -1,13 +1,17 @@
 -- Words that set a reading to something are a command, which says just that.
-use Rattle.std.proofs.Common.{if◌then◌else◌, ◌≡◌, ℕ, Bool, true, false, List, [], ◌∷◌, Option, Some, None, ap, codes, bytes_eq}
+use Rattle.std.proofs.Common.{if◌then◌else◌, ◌≡◌, ℕ, Bool, true, false, List, [], ◌∷◌, Option, Some, None, ap, refl, sym, subst, codes, bytes_eq}
+use Rattle.std.proofs.lemmas.Bool.{false≢true, and_from}
+use Rattle.std.proofs.lemmas.Str.{is_utf8-from_IsUtf8}
+use lib.Utf8.{encode}
+use Rattle.std.proofs.lemmas.Slice.Eq.{bytes_eq-Decides}
 use Rattle.std.specs.List.{list_all}
 use Rattle.std.specs.Str.{is_utf8}
 use Rattle.jl_model.specs.declared.orders.Order.{Order}
 use Rattle.jl_model.specs.declared.orders.Order.TheVariants.{Any, Streaming}
 use Rattle.jl_defs.specs.Texts.{Text}
 use Rattle.jl_defs.specs.Settings.{Settings}
-use Rattle.jl_defs.specs.Words.{Given, Command, reads, command, first_word, no_words, number_command, generates, tries_itself, read_command, nothing_given, options}
-use Rattle.jl_top.specs.Words.{AreReadWords, settings_in, settings_with, read_settings, words_with}
+use Rattle.jl_defs.specs.Words.{Given, Command, reads, writes, command, first_word, no_words, number_command, generates, tries_itself, read_command, nothing_given, options}
+use Rattle.jl_top.specs.Words.{AreReadWords, AreWriteWords, settings_in, settings_with, read_settings, words_with}
 
 module _ (s : Settings) where
   no_some : ◌≡◌ {A = Option Settings} None (Some s) → ⊥
@@ -49,3 +53,17 @@ pub words_command : AreReadWords
 unfolding command
 words_command [] s e = absurd (no_some s e)
 words_command (w ∷ ws) s e = whole_command s w ws (list_all is_utf8 (w ∷ ws)) e
+
+write_utf8 : is_utf8 (codes "write") ≡ true
+unfolding encode
+write_utf8 = is_utf8-from_IsUtf8 (codes "write") (codes "write", (refl, refl))
+
+pub write_command : AreWriteWords
+unfolding command
+write_command [] e = absurd (false≢true e)
+write_command (w ∷ []) e = subst (λ x. command (x ∷ []) ≡ Some writes) (sym ((bytes_eq-Decides w (codes "write")).0 e)) (by (list_all is_utf8 (codes "write" ∷ [])) (and_from (is_utf8 (codes "write")) true write_utf8 refl))
+  where
+    by : (b : Bool) → b ≡ true → ◌≡◌ {A = Option Command} (elim b [ true ↦ first_word (codes "write") [] | false ↦ None ]) (Some writes)
+    by true i = refl
+    by false i = absurd (false≢true i)
+write_command (w ∷ v ∷ ws) e = absurd (false≢true e)

@@ -24,7 +24,7 @@ use Rattle.jl_engine.proofs.Bytes.{sure-now}
 use Rattle.jl_top.proofs.PieceLines.{left_sure, end_left_sure}
 use Rattle.jl_top.proofs.SureQuads.{sure_longer}
 
-leaves_nil : (left : Option (List ℕ)) → Leaves left [] left
+pub leaves_nil : (left : Option (List ℕ)) → Leaves left [] left
 leaves_nil None = tt
 leaves_nil (Some bytes) = refl
 
@@ -89,14 +89,14 @@ begun_more e1 e2 piece w1 w2 (s, bytes, quads, stands) fed = let f = fed s bytes
 pub begun_new : (e : EngineState) (base : Option (List ℕ)) → ((s : Settings) → s.order ≡ (settings_with base).order → s.base ≡ base → Stands s [] [] e) → HasBegun e
 begun_new e base h = (settings_with base, [], [], h (settings_with base) refl refl)
 
-none_left : (l1 l2 : Option (List ℕ)) → Leaves l1 [] l2 → NoneLeft l1 → NoneLeft l2
+pub none_left : (l1 l2 : Option (List ℕ)) → Leaves l1 [] l2 → NoneLeft l1 → NoneLeft l2
 none_left None None h k = tt
 none_left (Some a) (Some b) h k = sym h ∙ k
 none_left None (Some b) h k = absurd h
 none_left (Some a) None h k = absurd h
 
 -- the bytes taken at the end are those before it
-took_end : (bytes : List ℕ) (t1 t2 l0 l1 l2 : Option (List ℕ)) → Took bytes t1 l0 l1 → t2 ≡ appended t1 [] → Leaves l1 [] l2 → Took bytes t2 l0 l2
+pub took_end : (bytes : List ℕ) (t1 t2 l0 l1 l2 : Option (List ℕ)) → Took bytes t1 l0 l1 → t2 ≡ appended t1 [] → Leaves l1 [] l2 → Took bytes t2 l0 l2
 took_end bytes t1 t2 l0 l1 l2 took t l = subst (λ b. Took b t2 l0 l2) (append-nil bytes) (took_more bytes [] t1 t2 l0 l1 l2 took t l)
 
 module _ (e0 e1 : EngineState) (block : Block) (t1 l0 l1 w1 : Option (List ℕ)) (count : ℕ) (g : Going e0 e1 block t1 l0 l1 w1 count) (s : Settings) (start : Stands s [] [] e0) where

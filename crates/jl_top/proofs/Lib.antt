@@ -9,3 +9,7 @@ pub mod Reporting
 pub mod Commands
 pub mod DueLines
 pub mod LineCounts
+pub mod Converting
+pub mod ConvertingPieces
+pub mod ConvertingRuns
+pub mod WriteReports

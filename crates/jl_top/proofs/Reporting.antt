@@ -1,5 +1,10 @@
 -- What a report says, from what the reading answers.
-use Rattle.std.proofs.Common.{◌≡◌, ◌↔◌, ◌<◌, ◌≤◌, ◌^◌, ◌+◌, inl, inr, ℕ, List, [], ◌∷◌, ◌++◌, length, Bool, true, false, refl, sym, ap, ◌∙◌, subst, arith, append_assoc, append-nil, length-append, Option, Some, None, Result, Ok, Err, IsErrOf}
+use Rattle.std.proofs.Common.{◌≡◌, ◌↔◌, ◌<◌, ◌≤◌, ◌^◌, ◌+◌, inl, inr, ℕ, List, [], ◌∷◌, ◌++◌, length, Bool, true, false, refl, sym, ap, ◌∙◌, subst, arith, append_assoc, append-nil, length-append, Option, Some, None, Result, Ok, Err, IsErrOf, codes}
+use Rattle.std.proofs.lemmas.Bool.{false≢true}
+use Rattle.std.proofs.lemmas.Slice.Eq.{bytes_eq-Decides}
+use Rattle.std.specs.List.{list_all}
+use Rattle.std.specs.Option.{IfSome}
+use Rattle.std.specs.Str.{is_utf8}
 use Rattle.jl_io.specs.Outside.{Leaves, NoneLeft}
 use Rattle.jl_model.specs.Causes.{HasCause}
 use Rattle.jl_model.proofs.Causing.{cause_none, cause_as}
@@ -8,25 +13,29 @@ use Rattle.jl_model.specs.JsonTree.{Tree}
 use Rattle.jl_model.specs.declared.faults.Fault.{Fault}
 use Rattle.jl_defs.specs.Sets.{Has}
 use Rattle.jl_defs.specs.Settings.{Settings}
+use Rattle.jl_defs.specs.Texts.{Text}
 use Rattle.jl_engine.specs.Standing.{EndRefusal}
 use Rattle.jl_engine.specs.Standing.EndRefusal.{by_end, by_fault as end_by_fault, by_form as end_by_form}
 use Rattle.jl_defs.specs.OpenText.{ReadsAs}
 use Rattle.jl_defs.specs.Faults.{faults}
 use Rattle.jl_frames.specs.Streamed.{later_forms}
 use Rattle.jl_top.specs.Blocks.{CountsLines}
+use Rattle.jl_top.specs.ConversionRuns.{WriteAnswers}
 use Rattle.jl_top.specs.Headline.{AnswersRead, AnswersFault, AnswersTaken, AnswersMemory, AnswersTooLong, Accepts, IsComplete, PutsSureLines, RunAnswers}
 use Rattle.jl_top.specs.Reports.{report_of, plain_report, IsReport, IsStatus}
 use Rattle.jl_top.specs.Runs.{IsFresh, IsAtFault, by_text, by_fault, by_form, IsFault, in_bytes, at_end, AnswersRun}
 use Rattle.jl_top.specs.declared.stops.ReadStop.{ReadStop}
 use Rattle.jl_top.specs.declared.stops.ReadStop.TheVariants.{Refused, TooLong, TakeFault, OutFault, NoMemory}
+use Rattle.jl_top.specs.Words.{settings_of, read_settings, are_write}
+use Rattle.jl_top.specs.declared.reports.Report.{Report}
 use Rattle.jl_top.proofs.Going.{memory_answers, no_lines}
 
 -- the bytes taken are a front of those told at the beginning
-taken_front : (bytes taken : List ℕ) (left : Option (List ℕ)) → Leaves (Some bytes) taken left → (rest : List ℕ) × (bytes ≡ taken ++ rest)
+pub taken_front : (bytes taken : List ℕ) (left : Option (List ℕ)) → Leaves (Some bytes) taken left → (rest : List ℕ) × (bytes ≡ taken ++ rest)
 taken_front bytes taken None h = absurd h
 taken_front bytes taken (Some rest) h = (rest, h)
 
-all_taken : (bytes taken : List ℕ) (left : Option (List ℕ)) → Leaves (Some bytes) taken left → NoneLeft left → bytes ≡ taken
+pub all_taken : (bytes taken : List ℕ) (left : Option (List ℕ)) → Leaves (Some bytes) taken left → NoneLeft left → bytes ≡ taken
 all_taken bytes taken None h k = absurd h
 all_taken bytes taken (Some rest) h k = h ∙ ap (λ r. taken ++ r) k ∙ append-nil taken
 
@@ -57,6 +66,24 @@ no_fault s fault taken bytes put told_end left h accepts (in_bytes f) =
     (t.1 ∙ ap (λ b. b ++ t.0) (f.bytes_are ∙ split) ∙ append_assoc (f.front ++ f.byte ∷ []) f.back t.0) accepts f.is_fault
 no_fault s fault taken bytes put told_end left h accepts (at_end f) =
     no_end_refusal s taken fault (subst (Accepts s) (all_taken bytes taken left h f.none_left) accepts) f.refusal
+
+-- ---- counts of failures
+
+pub taking_by : (quads : ℕ) (r : Result (Unit {0}) ReadStop) (m n : ℕ) → HasCause m n (IsErrOf r TakeFault) → HasCause m n ((report_of r quads).status ≡ 3)
+taking_by quads (Ok u) m n h = cause_none m n _ (h.others (λ e. cc)) (λ e. omega arith)
+taking_by quads (Err (Refused fault)) m n h = cause_none m n _ (h.others (λ e. cc)) (λ e. omega arith)
+taking_by quads (Err TooLong) m n h = cause_none m n _ (h.others (λ e. cc)) (λ e. omega arith)
+taking_by quads (Err TakeFault) m n h = cause_as m n _ _ (λ e. refl) (λ e. refl) h
+taking_by quads (Err OutFault) m n h = cause_none m n _ (h.others (λ e. cc)) (λ e. omega arith)
+taking_by quads (Err NoMemory) m n h = cause_none m n _ (h.others (λ e. cc)) (λ e. omega arith)
+
+pub writing_by : (quads : ℕ) (r : Result (Unit {0}) ReadStop) (m n : ℕ) → HasCause m n (IsErrOf r OutFault) → HasCause m n ((report_of r quads).status ≡ 4)
+writing_by quads (Ok u) m n h = cause_none m n _ (h.others (λ e. cc)) (λ e. omega arith)
+writing_by quads (Err (Refused fault)) m n h = cause_none m n _ (h.others (λ e. cc)) (λ e. omega arith)
+writing_by quads (Err TooLong) m n h = cause_none m n _ (h.others (λ e. cc)) (λ e. omega arith)
+writing_by quads (Err TakeFault) m n h = cause_none m n _ (h.others (λ e. cc)) (λ e. omega arith)
+writing_by quads (Err OutFault) m n h = cause_as m n _ _ (λ e. refl) (λ e. refl) h
+writing_by quads (Err NoMemory) m n h = cause_none m n _ (h.others (λ e. cc)) (λ e. omega arith)
 
 module _ (s : Settings) (taken left_old left_new put : Option (List ℕ)) (told_end : Bool) (quads : ℕ) where
   read_of : (r : Result (Unit {0}) ReadStop) → AnswersRun s r taken left_old left_new put told_end → AnswersRead s (report_of r quads) taken left_old left_new put
@@ -107,22 +134,6 @@ module _ (s : Settings) (taken left_old left_new put : Option (List ℕ)) (told_
   memory_of (Err OutFault) h = λ is. absurd (omega arith)
   memory_of (Err NoMemory) h = λ is. h.stops
 
-  taking_of : (r : Result (Unit {0}) ReadStop) (m n : ℕ) → HasCause m n (IsErrOf r TakeFault) → HasCause m n ((report_of r quads).status ≡ 3)
-  taking_of (Ok u) m n h = cause_none m n _ (h.others (λ e. cc)) (λ e. omega arith)
-  taking_of (Err (Refused fault)) m n h = cause_none m n _ (h.others (λ e. cc)) (λ e. omega arith)
-  taking_of (Err TooLong) m n h = cause_none m n _ (h.others (λ e. cc)) (λ e. omega arith)
-  taking_of (Err TakeFault) m n h = cause_as m n _ _ (λ e. refl) (λ e. refl) h
-  taking_of (Err OutFault) m n h = cause_none m n _ (h.others (λ e. cc)) (λ e. omega arith)
-  taking_of (Err NoMemory) m n h = cause_none m n _ (h.others (λ e. cc)) (λ e. omega arith)
-
-  writing_of : (r : Result (Unit {0}) ReadStop) (m n : ℕ) → HasCause m n (IsErrOf r OutFault) → HasCause m n ((report_of r quads).status ≡ 4)
-  writing_of (Ok u) m n h = cause_none m n _ (h.others (λ e. cc)) (λ e. omega arith)
-  writing_of (Err (Refused fault)) m n h = cause_none m n _ (h.others (λ e. cc)) (λ e. omega arith)
-  writing_of (Err TooLong) m n h = cause_none m n _ (h.others (λ e. cc)) (λ e. omega arith)
-  writing_of (Err TakeFault) m n h = cause_none m n _ (h.others (λ e. cc)) (λ e. omega arith)
-  writing_of (Err OutFault) m n h = cause_as m n _ _ (λ e. refl) (λ e. refl) h
-  writing_of (Err NoMemory) m n h = cause_none m n _ (h.others (λ e. cc)) (λ e. omega arith)
-
   complete_of : (r : Result (Unit {0}) ReadStop) (k0 k1 p0 p1 : ℕ) → AnswersRun s r taken left_old left_new put told_end → HasCause k0 k1 (IsErrOf r TakeFault) → HasCause p0 p1 (IsErrOf r OutFault) → IsComplete s (report_of r quads) left_old k0 k1 p0 p1
   complete_of (Ok u) k0 k1 p0 p1 h k p = λ bytes left accepts short no_take no_put. inl refl
   complete_of (Err (Refused fault)) k0 k1 p0 p1 h k p = λ bytes left accepts short no_take no_put.
@@ -152,7 +163,7 @@ not_one status h = (λ e. absurd (cc), λ e. absurd (h e))
 pub plain_is : (status quads : ℕ) → IsStatus status → (status ≡ 1 → ⊥) → IsReport (plain_report status quads)
 plain_is status quads known h = record { status = known; code = not_one status h; place = λ no. refl; peak = refl; weight = refl; limit = refl }
 
-report_is : (r : Result (Unit {0}) ReadStop) (quads : ℕ) → IsReport (report_of r quads)
+pub report_is : (r : Result (Unit {0}) ReadStop) (quads : ℕ) → IsReport (report_of r quads)
 report_is (Ok u) quads = plain_is 0 quads (inl refl) (λ e. omega arith)
 report_is (Err (Refused fault)) quads = record { status = inr (inl refl); code = (λ e. refl, λ e. refl); place = λ no. absurd (no refl); peak = refl; weight = refl; limit = refl }
 report_is (Err TooLong) quads = plain_is 8 quads (inr (inr (inr (inr (inr (inr refl)))))) (λ e. omega arith)
@@ -160,7 +171,7 @@ report_is (Err TakeFault) quads = plain_is 3 quads (inr (inr (inr (inl refl)))) 
 report_is (Err OutFault) quads = plain_is 4 quads (inr (inr (inr (inr (inl refl))))) (λ e. omega arith)
 report_is (Err NoMemory) quads = plain_is 5 quads (inr (inr (inr (inr (inr (inl refl)))))) (λ e. omega arith)
 
-no_two : (r : Result (Unit {0}) ReadStop) (quads : ℕ) → (report_of r quads).status ≡ 2 → ⊥
+pub no_two : (r : Result (Unit {0}) ReadStop) (quads : ℕ) → (report_of r quads).status ≡ 2 → ⊥
 no_two (Ok u) quads e = omega arith
 no_two (Err (Refused fault)) quads e = omega arith
 no_two (Err TooLong) quads e = omega arith
@@ -180,54 +191,81 @@ not_none : (s : Settings) → ◌≡◌ {A = Option Settings} (Some s) None → 
 not_none s e = cc
 
 -- the answer of a reading
-some_answers : (s : Settings) (r : Result (Unit {0}) ReadStop) (quads : ℕ) (t0 t1 l0 l1 w0 w1 : Option (List ℕ)) (e0 e1 : Bool) (k0 k1 p0 p1 : ℕ) → AnswersRun s r t1 l0 l1 w1 e1 → CountsLines w1 quads
-    → HasCause k0 k1 (IsErrOf r TakeFault) → HasCause p0 p1 (IsErrOf r OutFault) → RunAnswers (Some s) (report_of r quads) t0 t1 l0 l1 w0 w1 e0 e1 k0 k1 p0 p1
-some_answers s r quads t0 t1 l0 l1 w0 w1 e0 e1 k0 k1 p0 p1 h counts k p = record {
-  words = (λ is. absurd (no_two r quads is), λ other. absurd (not_none s other));
-  untouched = λ other. absurd (not_none s other);
-  read = read_of s t1 l0 l1 w1 e1 quads r h;
+pub reading_answers : (words : List Text) (s : Settings) (r : Result (Unit {0}) ReadStop) (quads : ℕ) (t0 t1 l0 l1 w0 w1 : Option (List ℕ)) (e0 e1 : Bool) (k0 k1 p0 p1 : ℕ) → Some s ≡ settings_of words → are_write words ≡ false → AnswersRun s r t1 l0 l1 w1 e1 → CountsLines w1 quads
+    → HasCause k0 k1 (IsErrOf r TakeFault) → HasCause p0 p1 (IsErrOf r OutFault) → RunAnswers words (report_of r quads) t0 t1 l0 l1 w0 w1 e0 e1 k0 k1 p0 p1
+reading_answers words s r quads t0 t1 l0 l1 w0 w1 e0 e1 k0 k1 p0 p1 is no_write h counts k p = record {
+  words = (λ two. absurd (no_two r quads two), λ other. absurd (not_none s (is ∙ other.0)));
+  untouched = λ other. absurd (not_none s (is ∙ other.0));
+  read = subst (λ o. IfSome o (λ s. AnswersRead s (report_of r quads) t1 l0 l1 w1)) is (read_of s t1 l0 l1 w1 e1 quads r h);
   ended = ended_of s t1 l0 l1 w1 e1 quads r h;
-  fault = fault_of s t1 l0 l1 w1 e1 quads r h;
-  taking = taking_of s t1 l0 l1 w1 e1 quads r k0 k1 k;
-  writing = writing_of s t1 l0 l1 w1 e1 quads r p0 p1 p;
-  taken = taken_of s t1 l0 l1 w1 e1 quads r h;
-  too_long = long_of s t1 l0 l1 w1 e1 quads r h;
-  memory = memory_of s t1 l0 l1 w1 e1 quads r h;
-  complete = complete_of s t1 l0 l1 w1 e1 quads r k0 k1 p0 p1 h k p;
-  lines = lines_of s t1 l0 l1 w1 e1 quads r h;
-  quads = subst (λ n. CountsLines w1 n) (sym (quads_are r quads)) counts;
+  fault = subst (λ o. IfSome o (λ s. AnswersFault s (report_of r quads) t1 l0 l1 w1 e1)) is (fault_of s t1 l0 l1 w1 e1 quads r h);
+  taking = taking_by quads r k0 k1 k;
+  writing = writing_by quads r p0 p1 p;
+  taken = subst (λ o. IfSome o (λ s. AnswersTaken s (report_of r quads) t1 l0 l1 w1)) is (taken_of s t1 l0 l1 w1 e1 quads r h);
+  too_long = subst (λ o. IfSome o (λ s. AnswersTooLong s (report_of r quads) t1 l0 l1 w1)) is (long_of s t1 l0 l1 w1 e1 quads r h);
+  memory = subst (λ o. IfSome o (λ s. AnswersMemory s (report_of r quads) t1 l0 l1 w1)) is (memory_of s t1 l0 l1 w1 e1 quads r h);
+  complete = subst (λ o. IfSome o (λ s. IsComplete s (report_of r quads) l0 k0 k1 p0 p1)) is (complete_of s t1 l0 l1 w1 e1 quads r k0 k1 p0 p1 h k p);
+  lines = subst (λ o. IfSome o (λ s. PutsSureLines s (report_of r quads) t1 l0 l1 w1)) is (lines_of s t1 l0 l1 w1 e1 quads r h);
+  write = λ is_write. absurd (false≢true (sym no_write ∙ is_write));
+  quads = λ other. subst (λ n. CountsLines w1 n) (sym (quads_are r quads)) counts;
   report = report_is r quads;
 }
 
-pub reading_answers : (settings : Option Settings) (s : Settings) (r : Result (Unit {0}) ReadStop) (quads : ℕ) (t0 t1 l0 l1 w0 w1 : Option (List ℕ)) (e0 e1 : Bool) (k0 k1 p0 p1 : ℕ) → Some s ≡ settings → AnswersRun s r t1 l0 l1 w1 e1 → CountsLines w1 quads
-    → HasCause k0 k1 (IsErrOf r TakeFault) → HasCause p0 p1 (IsErrOf r OutFault) → RunAnswers settings (report_of r quads) t0 t1 l0 l1 w0 w1 e0 e1 k0 k1 p0 p1
-reading_answers settings s r quads t0 t1 l0 l1 w0 w1 e0 e1 k0 k1 p0 p1 is h counts k p =
-    subst (λ o. RunAnswers o (report_of r quads) t0 t1 l0 l1 w0 w1 e0 e1 k0 k1 p0 p1) is (some_answers s r quads t0 t1 l0 l1 w0 w1 e0 e1 k0 k1 p0 p1 h counts k p)
-
 -- the answer for words that are no command
-none_answers : (t l w : Option (List ℕ)) (e : Bool) (k p : ℕ) → CountsLines w 0 → RunAnswers None (plain_report 2 0) t t l l w w e e k k p p
-none_answers t l w e k p counts = record {
-  words = (λ is. refl, λ is. refl);
-  untouched = λ is. record { taken = refl; put = refl; ended = refl };
-  read = tt;
-  ended = λ is. absurd (omega arith);
-  fault = tt;
-  taking = cause_none k k _ refl (λ is. omega arith);
-  writing = cause_none p p _ refl (λ is. omega arith);
-  taken = tt;
-  too_long = tt;
-  memory = tt;
-  complete = tt;
-  lines = tt;
-  quads = counts;
-  report = plain_is 2 0 (inr (inr (inl refl))) (λ is. omega arith);
+pub words_answers : (words : List Text) (t l w : Option (List ℕ)) (e : Bool) (k p : ℕ) → None ≡ settings_of words → are_write words ≡ false → CountsLines w 0 → RunAnswers words (plain_report 2 0) t t l l w w e e k k p p
+words_answers words t l w e k p is no_write counts = record {
+  words = (λ two. (sym is, no_write), λ none. refl);
+  untouched = λ none. record { taken = refl; left = refl; put = refl; ended = refl };
+  read = subst (λ o. IfSome o (λ s. AnswersRead s (plain_report 2 0) t l l w)) is tt;
+  ended = λ zero. absurd (omega arith);
+  fault = subst (λ o. IfSome o (λ s. AnswersFault s (plain_report 2 0) t l l w e)) is tt;
+  taking = cause_none k k _ refl (λ three. omega arith);
+  writing = cause_none p p _ refl (λ four. omega arith);
+  taken = subst (λ o. IfSome o (λ s. AnswersTaken s (plain_report 2 0) t l l w)) is tt;
+  too_long = subst (λ o. IfSome o (λ s. AnswersTooLong s (plain_report 2 0) t l l w)) is tt;
+  memory = subst (λ o. IfSome o (λ s. AnswersMemory s (plain_report 2 0) t l l w)) is tt;
+  complete = subst (λ o. IfSome o (λ s. IsComplete s (plain_report 2 0) l k k p p)) is tt;
+  lines = subst (λ o. IfSome o (λ s. PutsSureLines s (plain_report 2 0) t l l w)) is tt;
+  write = λ is_write. absurd (false≢true (sym no_write ∙ is_write));
+  quads = λ other. counts;
+  report = plain_is 2 0 (inr (inr (inl refl))) (λ one. omega arith);
 }
 
-pub words_answers : (settings : Option Settings) (t l w : Option (List ℕ)) (e : Bool) (k p : ℕ) → None ≡ settings → CountsLines w 0 → RunAnswers settings (plain_report 2 0) t t l l w w e e k k p p
-words_answers settings t l w e k p is counts = subst (λ o. RunAnswers o (plain_report 2 0) t t l l w w e e k k p p) is (none_answers t l w e k p counts)
-
--- the answer where memory is wanting before anything was read
-pub memory_reported : (settings : Option Settings) (s : Settings) (t l w : Option (List ℕ)) (e : Bool) (k p : ℕ) → Some s ≡ settings → IsFresh t w → RunAnswers settings (plain_report 5 0) t t l l w w e e k k p p
-memory_reported settings s t l w e k p is fresh =
-    reading_answers settings s (Err NoMemory) 0 t t l l w w e e k k p p is (memory_answers s t l w e fresh) (no_lines t w fresh)
+-- the answer where memory runs out before anything was read
+pub memory_reported : (words : List Text) (s : Settings) (t l w : Option (List ℕ)) (e : Bool) (k p : ℕ) → Some s ≡ settings_of words → are_write words ≡ false → IsFresh t w → RunAnswers words (plain_report 5 0) t t l l w w e e k k p p
+memory_reported words s t l w e k p is no_write fresh =
+    reading_answers words s (Err NoMemory) 0 t t l l w w e e k k p p is no_write (memory_answers s t l w e fresh) (no_lines t w fresh)
     (cause_none k k _ refl (λ e. cc)) (cause_none p p _ refl (λ e. cc))
+
+-- the word `write` sets no reading to anything
+write_sets_none : (words : List Text) → are_write words ≡ true → None ≡ settings_of words
+write_sets_none [] e = absurd (false≢true e)
+write_sets_none (w ∷ []) e = subst (λ x. None ≡ settings_of (x ∷ [])) (sym ((bytes_eq-Decides w (codes "write")).0 e)) (by (list_all is_utf8 (codes "write" ∷ [])))
+  where
+    by : (b : Bool) → ◌≡◌ {A = Option Settings} None (elim b [ true ↦ read_settings (codes "write") [] | false ↦ None ])
+    by true = refl
+    by false = refl
+write_sets_none (w ∷ v ∷ ws) e = absurd (false≢true e)
+
+-- the answer of `write`
+pub writing_answers : (words : List Text) (answer : Report) (t0 t1 l0 l1 w0 w1 : Option (List ℕ)) (e0 e1 : Bool) (k0 k1 p0 p1 : ℕ) → are_write words ≡ true → WriteAnswers answer t1 l0 l1 w1 e1 k0 k1 p0 p1 → RunAnswers words answer t0 t1 l0 l1 w0 w1 e0 e1 k0 k1 p0 p1
+writing_answers words answer t0 t1 l0 l1 w0 w1 e0 e1 k0 k1 p0 p1 writes h = record {
+  words = (λ two. absurd (h.command two), λ none. absurd (false≢true (sym none.1 ∙ writes)));
+  untouched = λ none. absurd (false≢true (sym none.1 ∙ writes));
+  read = subst (λ o. IfSome o (λ s. AnswersRead s answer t1 l0 l1 w1)) is tt;
+  ended = h.ended;
+  fault = subst (λ o. IfSome o (λ s. AnswersFault s answer t1 l0 l1 w1 e1)) is tt;
+  taking = h.taking;
+  writing = h.writing;
+  taken = subst (λ o. IfSome o (λ s. AnswersTaken s answer t1 l0 l1 w1)) is tt;
+  too_long = subst (λ o. IfSome o (λ s. AnswersTooLong s answer t1 l0 l1 w1)) is tt;
+  memory = subst (λ o. IfSome o (λ s. AnswersMemory s answer t1 l0 l1 w1)) is tt;
+  complete = subst (λ o. IfSome o (λ s. IsComplete s answer l0 k0 k1 p0 p1)) is tt;
+  lines = subst (λ o. IfSome o (λ s. PutsSureLines s answer t1 l0 l1 w1)) is tt;
+  write = λ again. h.conversion;
+  quads = λ not. absurd (false≢true (sym not ∙ writes));
+  report = h.report;
+}
+  where
+    is : None ≡ settings_of words
+    is = write_sets_none words writes

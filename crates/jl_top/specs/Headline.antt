@@ -1,19 +1,23 @@
 -- What each answer of `run` says.
-use Rattle.std.specs.Prelude.{◌≡◌, ◌⊎◌, ◌↔◌, ℕ, ◌^◌, ◌≤◌, ◌==◌, Bool, true, List, length, Option, Some, None, IfSome}
+use Rattle.std.specs.Prelude.{◌≡◌, ◌⊎◌, ◌↔◌, ℕ, ◌^◌, ◌≤◌, ◌==◌, Bool, true, false, List, length, Option, Some, None, IfSome}
 use Rattle.jl_model.specs.JsonTree.{Tree}
 use Rattle.jl_model.specs.Causes.{HasCause, Rose}
 use Rattle.jl_defs.specs.Faults.{AcceptsTree}
 use Rattle.jl_defs.specs.OpenText.{ReadsAs}
 use Rattle.jl_defs.specs.Settings.{Settings}
+use Rattle.jl_defs.specs.Texts.{Text}
 use Rattle.jl_engine.specs.Standing.{IsWithinStage}
 use Rattle.jl_top.specs.Blocks.{CountsLines}
+use Rattle.jl_top.specs.ConversionRuns.{ConversionAnswers}
 use Rattle.jl_top.specs.Reports.{IsReport}
 use Rattle.jl_top.specs.Runs.{SaysAllTaken, SureBeforePiece, ReadsWhole, HasFault, TakesTooMany, LinesAreSure}
+use Rattle.jl_top.specs.Words.{settings_of, are_write, IsNoCommand}
 use Rattle.jl_top.specs.declared.reports.Report.{Report}
 
 -- nothing was taken and nothing put
-pub record IsUntouched (taken_old taken_new put_old put_new : Option (List ℕ)) (ended_old ended_new : Bool) : Type 0 where
+pub record IsUntouched (taken_old taken_new left_old left_new put_old put_new : Option (List ℕ)) (ended_old ended_new : Bool) : Type 0 where
   pub taken : taken_new ≡ taken_old
+  pub left : left_new ≡ left_old
   pub put : put_new ≡ put_old
   pub ended : ended_new ≡ ended_old
 
@@ -59,19 +63,20 @@ IsComplete s report left takes_old takes_new puts_old puts_new =
 abbrev pub PutsSureLines : Settings → Report → Option (List ℕ) → Option (List ℕ) → Option (List ℕ) → Option (List ℕ) → Type 0
 PutsSureLines s report taken left_old left_new put = LinesAreSure s (report.status == 4) taken left_old left_new put
 
--- all of these, for the settings, the report and the port before and after
-pub record RunAnswers (settings : Option Settings) (answer : Report) (taken_old taken_new left_old left_new put_old put_new : Option (List ℕ)) (ended_old ended_new : Bool) (takes_old takes_new puts_old puts_new : ℕ) : Type 0 where
-  pub words : (answer.status ≡ 2) ↔ (settings ≡ None)
-  pub untouched : settings ≡ None → IsUntouched taken_old taken_new put_old put_new ended_old ended_new
-  pub read : IfSome settings (λ s. AnswersRead s answer taken_new left_old left_new put_new)
+-- all of these, for the words, the report and the port before and after
+pub record RunAnswers (given : List Text) (answer : Report) (taken_old taken_new left_old left_new put_old put_new : Option (List ℕ)) (ended_old ended_new : Bool) (takes_old takes_new puts_old puts_new : ℕ) : Type 0 where
+  pub words : (answer.status ≡ 2) ↔ IsNoCommand given
+  pub untouched : IsNoCommand given → IsUntouched taken_old taken_new left_old left_new put_old put_new ended_old ended_new
+  pub read : IfSome (settings_of given) (λ s. AnswersRead s answer taken_new left_old left_new put_new)
   pub ended : answer.status ≡ 0 → ended_new ≡ true
-  pub fault : IfSome settings (λ s. AnswersFault s answer taken_new left_old left_new put_new ended_new)
+  pub fault : IfSome (settings_of given) (λ s. AnswersFault s answer taken_new left_old left_new put_new ended_new)
   pub taking : AnswersTaking answer takes_old takes_new
   pub writing : AnswersWriting answer puts_old puts_new
-  pub taken : IfSome settings (λ s. AnswersTaken s answer taken_new left_old left_new put_new)
-  pub too_long : IfSome settings (λ s. AnswersTooLong s answer taken_new left_old left_new put_new)
-  pub memory : IfSome settings (λ s. AnswersMemory s answer taken_new left_old left_new put_new)
-  pub complete : IfSome settings (λ s. IsComplete s answer left_old takes_old takes_new puts_old puts_new)
-  pub lines : IfSome settings (λ s. PutsSureLines s answer taken_new left_old left_new put_new)
-  pub quads : CountsLines put_new answer.quads
+  pub taken : IfSome (settings_of given) (λ s. AnswersTaken s answer taken_new left_old left_new put_new)
+  pub too_long : IfSome (settings_of given) (λ s. AnswersTooLong s answer taken_new left_old left_new put_new)
+  pub memory : IfSome (settings_of given) (λ s. AnswersMemory s answer taken_new left_old left_new put_new)
+  pub complete : IfSome (settings_of given) (λ s. IsComplete s answer left_old takes_old takes_new puts_old puts_new)
+  pub lines : IfSome (settings_of given) (λ s. PutsSureLines s answer taken_new left_old left_new put_new)
+  pub write : are_write given ≡ true → ConversionAnswers answer taken_new left_old left_new put_new ended_new takes_old takes_new puts_old puts_new
+  pub quads : are_write given ≡ false → CountsLines put_new answer.quads
   pub report : IsReport answer

@@ -5,3 +5,6 @@ pub mod Reports
 pub mod Runs
 pub mod Words
 pub mod Promptness
+pub mod Conversions
+pub mod ConversionSteps
+pub mod ConversionRuns

@@ -8,7 +8,7 @@ use Rattle.jl_model.specs.declared.orders.Order.TheVariants.{Any, Streaming}
 use Rattle.jl_defs.specs.Texts.{Text, is_iri}
 use Rattle.jl_defs.specs.Settings.{Settings}
 use Rattle.jl_defs.specs.Words as defs
-use Rattle.jl_defs.specs.Words.{Given, ReadWords, reads, command, nothing_given, options, set_once, iri_word, is_value_word}
+use Rattle.jl_defs.specs.Words.{Given, ReadWords, reads, writes, command, nothing_given, options, set_once, iri_word, is_value_word}
 use Rattle.jl_top.specs.declared.words.Progress.{Progress}
 use Rattle.jl_top.specs.declared.words.ReadOptions.{ReadOptions}
 use Rattle.jl_top.specs.declared.words.Split.{Split}
@@ -40,6 +40,16 @@ abbrev pub settings_of : List Text → Option Settings
 settings_of [] = None
 settings_of (w ∷ ws) = elim (list_all is_utf8 (w ∷ ws)) [ true ↦ read_settings w ws | false ↦ None ]
 
+-- the word `write` alone
+abbrev pub are_write : List Text → Bool
+are_write [] = false
+are_write (w ∷ []) = bytes_eq w (codes "write")
+are_write (w ∷ v ∷ ws) = false
+
+-- the words are no command that is built
+abbrev pub IsNoCommand : List Text → Type 0
+IsNoCommand words = (settings_of words ≡ None) × (are_write words ≡ false)
+
 -- what `read` is told then: all else is as if it weren't given
 abbrev pub words_with : Settings → ReadWords
 words_with s = record { order = s.order; base = s.base; contexts = None; limit = 268435456; only_graph = None; only_predicate = None; stats = false }
@@ -47,6 +57,10 @@ words_with s = record { order = s.order; base = s.base; contexts = None; limit =
 -- words that set a reading to something are a command, which says just that
 abbrev pub AreReadWords : Type 0
 AreReadWords = (words : List Text) (s : Settings) → settings_of words ≡ Some s → command words ≡ Some (reads (words_with s))
+
+-- and so is the word `write`
+abbrev pub AreWriteWords : Type 0
+AreWriteWords = (words : List Text) → are_write words ≡ true → command words ≡ Some writes
 
 -- ---- the options as they are read one after another
 

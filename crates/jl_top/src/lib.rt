@@ -3,6 +3,9 @@
 
 mod block_outs;
 mod blocks;
+mod conversion_pieces;
+mod conversion_runs;
+mod conversions;
 mod pieces;
 mod reports;
 mod runs;
@@ -13,6 +16,8 @@ mod strict_tests;
 mod tests;
 mod top;
 mod words;
+#[cfg(test)]
+mod write_tests;
 
 pub use reports::Report;
 pub use top::run;

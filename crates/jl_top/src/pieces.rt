@@ -26,12 +26,16 @@ pub fn read_piece<B: ByteOut>(
 ) -> Result<(), Stop>
     requires begun { HasBegun engine.old }
     requires none_held { held_of block.old ≡ [] }
-    ensures fed { OnOk result ((s : Settings) (bytes : List ℕ) (quads : List Parts) → Stands s bytes quads engine.old
+    ensures fed { OnOk result ((s : Settings) (bytes : List ℕ) (quads : List Parts) → Stands s
+        bytes quads engine.old
         → FedLines s bytes quads piece.now engine.new (B.written out.old) (B.written out.new)) }
-    ensures stopped { StopsWithLines result engine.old engine.new piece.now (B.written out.old) (B.written out.new) }
+    ensures stopped { StopsWithLines result engine.old engine.new piece.now (B.written out.old)
+        (B.written out.new) }
     ensures none_held { OnOk result (held_of block.new ≡ []) }
-    ensures counts { CountsLines (B.written out.old) block.old.lines → CountsLines (B.written out.new) block.new.lines }
-    ensures cause { HasCause (B.put_faults out.old) (B.put_faults out.new) (IsErrOf result Stop.OutFault) }
+    ensures counts { CountsLines (B.written out.old) block.old.lines → CountsLines
+        (B.written out.new) block.new.lines }
+    ensures cause { HasCause (B.put_faults out.old) (B.put_faults out.new)
+        (IsErrOf result Stop.OutFault) }
     ensures beside { B.beside out.old out.new }
 {
     match read_into(alloc, engine, piece, out, block) {
@@ -49,11 +53,14 @@ pub fn read_end<B: ByteOut>(
 ) -> Result<(), Stop>
     requires begun { HasBegun engine.old }
     requires none_held { held_of block.old ≡ [] }
-    ensures finished { OnOk result ((s : Settings) (bytes : List ℕ) (quads : List Parts) → Stands s bytes quads engine.old
+    ensures finished { OnOk result ((s : Settings) (bytes : List ℕ) (quads : List Parts) →
+        Stands s bytes quads engine.old
         → FinishedLines s bytes quads (B.written out.old) (B.written out.new)) }
     ensures stopped { EndsWithLines result engine.old (B.written out.old) (B.written out.new) }
-    ensures counts { CountsLines (B.written out.old) block.old.lines → CountsLines (B.written out.new) block.new.lines }
-    ensures cause { HasCause (B.put_faults out.old) (B.put_faults out.new) (IsErrOf result Stop.OutFault) }
+    ensures counts { CountsLines (B.written out.old) block.old.lines → CountsLines
+        (B.written out.new) block.new.lines }
+    ensures cause { HasCause (B.put_faults out.old) (B.put_faults out.new)
+        (IsErrOf result Stop.OutFault) }
     ensures beside { B.beside out.old out.new }
 {
     match end_into(alloc, engine, out, block) {
@@ -63,7 +70,7 @@ pub fn read_end<B: ByteOut>(
 }
 
 /// Hands on all that is held.
-fn hand_on_rest<B: ByteOut>(out: &mut B, block: &mut Block) -> Result<(), Stop>
+pub fn hand_on_rest<B: ByteOut>(out: &mut B, block: &mut Block) -> Result<(), Stop>
     ensures hands_on { HandsOn (B.written out.old) (B.written out.new) block.old block.new }
     ensures all { OnOk result (held_of block.new ≡ []) }
     ensures stop { IfErr result (λ stop. stop ≡ Stop.OutFault) }
@@ -78,9 +85,10 @@ fn hand_on_rest<B: ByteOut>(out: &mut B, block: &mut Block) -> Result<(), Stop>
 
 /// Hands on all that is held after a stop, unless the out failed. Where it fails now, that is what
 /// is answered, since those lines came first.
-fn hand_on_stopped<B: ByteOut>(out: &mut B, block: &mut Block, stop: Stop) -> Stop
+pub fn hand_on_stopped<B: ByteOut>(out: &mut B, block: &mut Block, stop: Stop) -> Stop
     ensures hands_on { HandsOn (B.written out.old) (B.written out.new) block.old block.new }
-    ensures answer { (result ≡ Stop.OutFault) ⊎ ((result ≡ stop) × (held_of block.new ≡ [])) }
+    ensures answer { (result ≡ Stop.OutFault) ⊎
+        ((result ≡ stop) × (held_of block.new ≡ [])) }
     ensures cause { HasCause (B.put_faults out.old) (B.put_faults out.new) (FailedNow stop result) }
     ensures beside { B.beside out.old out.new }
 {
@@ -103,11 +111,16 @@ fn read_into<B: ByteOut>(
     block: &mut Block,
 ) -> Result<(), Stop>
     requires { HasBegun engine.old }
-    ensures fed { OnOk result ((s : Settings) (bytes : List ℕ) (quads : List Parts) → Stands s bytes quads engine.old
+    ensures fed { OnOk result ((s : Settings) (bytes : List ℕ) (quads : List Parts) → Stands s
+        bytes quads engine.old
         → FedLines s bytes quads piece.now engine.new (appended (B.written out.old) (held_of block.old)) (appended (B.written out.new) (held_of block.new))) }
-    ensures stopped { StopsWithLines result engine.old engine.new piece.now (appended (B.written out.old) (held_of block.old)) (appended (B.written out.new) (held_of block.new)) }
-    ensures counts { CountsLines (B.written out.old) block.old.lines → CountsLines (B.written out.new) block.new.lines }
-    ensures cause { HasCause (B.put_faults out.old) (B.put_faults out.new) (IsErrOf result Stop.OutFault) }
+    ensures stopped { StopsWithLines result engine.old engine.new piece.now
+        (appended (B.written out.old) (held_of block.old))
+        (appended (B.written out.new) (held_of block.new)) }
+    ensures counts { CountsLines (B.written out.old) block.old.lines → CountsLines
+        (B.written out.new) block.new.lines }
+    ensures cause { HasCause (B.put_faults out.old) (B.put_faults out.new)
+        (IsErrOf result Stop.OutFault) }
     ensures beside { B.beside out.old out.new }
 {
     let mut gathering = BlockOut::new(out, block);
@@ -122,11 +135,16 @@ fn end_into<B: ByteOut>(
     block: &mut Block,
 ) -> Result<(), Stop>
     requires { HasBegun engine.old }
-    ensures finished { OnOk result ((s : Settings) (bytes : List ℕ) (quads : List Parts) → Stands s bytes quads engine.old
+    ensures finished { OnOk result ((s : Settings) (bytes : List ℕ) (quads : List Parts) →
+        Stands s bytes quads engine.old
         → FinishedLines s bytes quads (appended (B.written out.old) (held_of block.old)) (appended (B.written out.new) (held_of block.new))) }
-    ensures stopped { EndsWithLines result engine.old (appended (B.written out.old) (held_of block.old)) (appended (B.written out.new) (held_of block.new)) }
-    ensures counts { CountsLines (B.written out.old) block.old.lines → CountsLines (B.written out.new) block.new.lines }
-    ensures cause { HasCause (B.put_faults out.old) (B.put_faults out.new) (IsErrOf result Stop.OutFault) }
+    ensures stopped { EndsWithLines result engine.old
+        (appended (B.written out.old) (held_of block.old))
+        (appended (B.written out.new) (held_of block.new)) }
+    ensures counts { CountsLines (B.written out.old) block.old.lines → CountsLines
+        (B.written out.new) block.new.lines }
+    ensures cause { HasCause (B.put_faults out.old) (B.put_faults out.new)
+        (IsErrOf result Stop.OutFault) }
     ensures beside { B.beside out.old out.new }
 {
     let mut gathering = BlockOut::new(out, block);
@@ -141,10 +159,13 @@ fn read_lines<B: ByteOut>(
     out: &mut B,
 ) -> Result<(), Stop>
     requires { HasBegun engine.old }
-    ensures fed { OnOk result ((s : Settings) (bytes : List ℕ) (quads : List Parts) → Stands s bytes quads engine.old
+    ensures fed { OnOk result ((s : Settings) (bytes : List ℕ) (quads : List Parts) → Stands s
+        bytes quads engine.old
         → FedLines s bytes quads piece.now engine.new (B.written out.old) (B.written out.new)) }
-    ensures stopped { StopsWithLines result engine.old engine.new piece.now (B.written out.old) (B.written out.new) }
-    ensures cause { HasCause (B.put_faults out.old) (B.put_faults out.new) (IsErrOf result Stop.OutFault) }
+    ensures stopped { StopsWithLines result engine.old engine.new piece.now (B.written out.old)
+        (B.written out.new) }
+    ensures cause { HasCause (B.put_faults out.old) (B.put_faults out.new)
+        (IsErrOf result Stop.OutFault) }
     ensures beside { B.beside out.old out.new }
 {
     let mut lines = LineOut::new(out);
@@ -154,10 +175,12 @@ fn read_lines<B: ByteOut>(
 /// Reads the end, and puts the last lines to the out.
 fn end_lines<B: ByteOut>(alloc: Global, engine: &mut Engine, out: &mut B) -> Result<(), Stop>
     requires { HasBegun engine.old }
-    ensures finished { OnOk result ((s : Settings) (bytes : List ℕ) (quads : List Parts) → Stands s bytes quads engine.old
+    ensures finished { OnOk result ((s : Settings) (bytes : List ℕ) (quads : List Parts) →
+        Stands s bytes quads engine.old
         → FinishedLines s bytes quads (B.written out.old) (B.written out.new)) }
     ensures stopped { EndsWithLines result engine.old (B.written out.old) (B.written out.new) }
-    ensures cause { HasCause (B.put_faults out.old) (B.put_faults out.new) (IsErrOf result Stop.OutFault) }
+    ensures cause { HasCause (B.put_faults out.old) (B.put_faults out.new)
+        (IsErrOf result Stop.OutFault) }
     ensures beside { B.beside out.old out.new }
 {
     let mut lines = LineOut::new(out);
@@ -174,10 +197,13 @@ fn read_through<'a, B: ByteOut>(
     requires begun { HasBegun engine.old }
     requires unfailed { lines.old.failed ≡ false }
     requires unrefused { lines.old.refused ≡ 0 }
-    ensures fed { OnOk result ((s : Settings) (bytes : List ℕ) (quads : List Parts) → Stands s bytes quads engine.old
+    ensures fed { OnOk result ((s : Settings) (bytes : List ℕ) (quads : List Parts) → Stands s
+        bytes quads engine.old
         → FedLines s bytes quads piece.now engine.new (B.written lines.old.out.now) (B.written lines.new.out.now)) }
-    ensures stopped { StopsWithLines result engine.old engine.new piece.now (B.written lines.old.out.now) (B.written lines.new.out.now) }
-    ensures cause { HasCause (B.put_faults lines.old.out.now) (B.put_faults lines.new.out.now) (IsErrOf result Stop.OutFault) }
+    ensures stopped { StopsWithLines result engine.old engine.new piece.now
+        (B.written lines.old.out.now) (B.written lines.new.out.now) }
+    ensures cause { HasCause (B.put_faults lines.old.out.now) (B.put_faults lines.new.out.now)
+        (IsErrOf result Stop.OutFault) }
     ensures beside { B.beside lines.old.out.now lines.new.out.now }
     ensures same { lines.new.out.ghost_name ≡ lines.old.out.ghost_name }
 {
@@ -197,10 +223,13 @@ fn end_through<'a, B: ByteOut>(
     requires begun { HasBegun engine.old }
     requires unfailed { lines.old.failed ≡ false }
     requires unrefused { lines.old.refused ≡ 0 }
-    ensures finished { OnOk result ((s : Settings) (bytes : List ℕ) (quads : List Parts) → Stands s bytes quads engine.old
+    ensures finished { OnOk result ((s : Settings) (bytes : List ℕ) (quads : List Parts) →
+        Stands s bytes quads engine.old
         → FinishedLines s bytes quads (B.written lines.old.out.now) (B.written lines.new.out.now)) }
-    ensures stopped { EndsWithLines result engine.old (B.written lines.old.out.now) (B.written lines.new.out.now) }
-    ensures cause { HasCause (B.put_faults lines.old.out.now) (B.put_faults lines.new.out.now) (IsErrOf result Stop.OutFault) }
+    ensures stopped { EndsWithLines result engine.old (B.written lines.old.out.now)
+        (B.written lines.new.out.now) }
+    ensures cause { HasCause (B.put_faults lines.old.out.now) (B.put_faults lines.new.out.now)
+        (IsErrOf result Stop.OutFault) }
     ensures beside { B.beside lines.old.out.now lines.new.out.now }
     ensures same { lines.new.out.ghost_name ≡ lines.old.out.ghost_name }
 {

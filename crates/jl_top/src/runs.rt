@@ -20,10 +20,10 @@ use jl_model::Order;
 use std::alloc::Global;
 
 /// How many bytes are taken at once.
-const PIECE: usize = 65536;
+pub const PIECE: usize = 65536;
 
 /// More bytes than these are too long a document.
-const LIMIT: u64 = 1 << 40;
+pub const LIMIT: u64 = 1 << 40;
 
 /// Reads all the input in streaming order, with this base, and puts the lines of its quads through
 /// the block.
@@ -38,11 +38,15 @@ pub fn read_all<P: Port>(
     requires fresh { IsFresh (P.taken port.old) (P.written port.old) }
     requires may { Grants (settings_with (option_copied base)) (P.may_take port.old) }
     requires block { IsEmptyBlock block.old }
-    ensures answers { AnswersRun (settings_with (option_copied base.entry)) result (P.taken port.new) (P.left port.old) (P.left port.new) (P.written port.new) (P.ended port.new) }
+    ensures answers { AnswersRun (settings_with (option_copied base.entry)) result
+        (P.taken port.new) (P.left port.old) (P.left port.new) (P.written port.new)
+        (P.ended port.new) }
     ensures counts { CountsLines (P.written port.new) block.new.lines }
     ensures said { P.said port.new ≡ P.said port.old }
-    ensures takes { HasCause (P.take_faults port.old) (P.take_faults port.new) (IsErrOf result ReadStop.TakeFault) }
-    ensures puts { HasCause (P.put_faults port.old) (P.put_faults port.new) (IsErrOf result ReadStop.OutFault) }
+    ensures takes { HasCause (P.take_faults port.old) (P.take_faults port.new)
+        (IsErrOf result ReadStop.TakeFault) }
+    ensures puts { HasCause (P.put_faults port.old) (P.put_faults port.new)
+        (IsErrOf result ReadStop.OutFault) }
 {
     let Ok(mut engine) = Engine::new(alloc, Order::Streaming, base) else {
         return Err(ReadStop::NoMemory);
@@ -68,11 +72,15 @@ fn read_on<P: Port>(
     requires begun { HasBegun engine.old }
     requires buf { 0 < length buf.old }
     requires piece { length buf.old ≤ piece_size }
-    ensures answers { (s : Settings) → Stands s [] [] engine.old → AnswersRun s result (P.taken port.new) (P.left port.old) (P.left port.new) (P.written port.new) (P.ended port.new) }
+    ensures answers { (s : Settings) → Stands s [] [] engine.old → AnswersRun s result
+        (P.taken port.new) (P.left port.old) (P.left port.new) (P.written port.new)
+        (P.ended port.new) }
     ensures counts { CountsLines (P.written port.new) block.new.lines }
     ensures said { P.said port.new ≡ P.said port.old }
-    ensures takes { HasCause (P.take_faults port.old) (P.take_faults port.new) (IsErrOf result ReadStop.TakeFault) }
-    ensures puts { HasCause (P.put_faults port.old) (P.put_faults port.new) (IsErrOf result ReadStop.OutFault) }
+    ensures takes { HasCause (P.take_faults port.old) (P.take_faults port.new)
+        (IsErrOf result ReadStop.TakeFault) }
+    ensures puts { HasCause (P.put_faults port.old) (P.put_faults port.new)
+        (IsErrOf result ReadStop.OutFault) }
 {
     let mut taken = 0u64;
     while taken <= LIMIT {
@@ -102,8 +110,10 @@ fn end<P: Port>(
     requires begun { HasBegun engine.old }
     requires none_held { held_of block.old ≡ [] }
     ensures answers { EndsRun result engine.old (P.written port.old) (P.written port.new) }
-    ensures counts { CountsLines (P.written port.old) block.old.lines → CountsLines (P.written port.new) block.new.lines }
-    ensures puts { HasCause (P.put_faults port.old) (P.put_faults port.new) (IsErrOf result ReadStop.OutFault) }
+    ensures counts { CountsLines (P.written port.old) block.old.lines → CountsLines
+        (P.written port.new) block.new.lines }
+    ensures puts { HasCause (P.put_faults port.old) (P.put_faults port.new)
+        (IsErrOf result ReadStop.OutFault) }
     ensures takes { IsErrOf result ReadStop.TakeFault → ⊥ }
     ensures beside { P.beside port.old port.new }
 {
@@ -113,7 +123,7 @@ fn end<P: Port>(
     }
 }
 
-fn read_stop_of(stop: Stop) -> ReadStop
+pub fn read_stop_of(stop: Stop) -> ReadStop
     ensures { result ≡ read_stop_for stop }
 {
     match stop {

@@ -6,7 +6,7 @@ ghost use Rattle.jl_defs.specs.Texts as texts;
 ghost use Rattle.jl_defs.specs.Words as defs;
 ghost use Rattle.jl_defs.specs.Words.{nothing_given, split_word, is_value_word};
 ghost use Rattle.jl_top.specs.Words as spec;
-ghost use Rattle.jl_top.specs.Words.{AreReadWords, settings_of, settings_in, settings_for, read_settings, given_in, HasIriBase, is_equals, split_in, set_built, settings_then, value_settings, settings_behind};
+ghost use Rattle.jl_top.specs.Words.{AreReadWords, AreWriteWords, settings_of, settings_in, settings_for, read_settings, given_in, HasIriBase, is_equals, split_in, set_built, settings_then, value_settings, settings_behind};
 
 use jl_iri::is_iri;
 use jl_model::Text;
@@ -32,10 +32,22 @@ pub struct Split<'a> {
     pub value: Option<&'a [u8]>,
 }
 
-/// Words that set a reading to something are a command of the whole program, which says just that.
+/// Words that set a reading to something, and the word `write`, are a command of the whole program,
+/// which says just that.
 pub fn law_words()
-    ensures { AreReadWords }
+    ensures read { AreReadWords }
+    ensures write { AreWriteWords }
 {}
+
+/// Whether the words are `write` alone.
+pub fn are_write(words: &[Text]) -> bool
+    ensures { result ≡ spec.are_write words.now }
+{
+    match words {
+        [word] => word.bytes() == b"write".as_slice(),
+        _ => false,
+    }
+}
 
 /// What the words say, if they are a command that is built: `read`, with streaming order and perhaps
 /// a base.
@@ -123,7 +135,8 @@ fn read_option<'a>(
     behind: &'a [Text],
 ) -> Option<Progress<'a>>
     requires { HasIriBase options }
-    ensures settings { settings_behind result ≡ settings_in (defs.options (word.now ∷ behind.now) (given_in options.entry)) }
+    ensures settings { settings_behind result ≡ settings_in
+        (defs.options (word.now ∷ behind.now) (given_in options.entry)) }
     ensures base { IfSome result (λ next. HasIriBase next.options) }
     ensures fewer { IfSome result (λ next. length next.rest.now ≤ length behind.now) }
 {
@@ -137,7 +150,8 @@ fn read_option<'a>(
 /// What an option says whose value is the first of these words.
 fn read_value<'a>(options: ReadOptions<'a>, name: &[u8], words: &'a [Text]) -> Option<Progress<'a>>
     requires { HasIriBase options }
-    ensures settings { settings_behind result ≡ value_settings name.now words.now (given_in options.entry) }
+    ensures settings { settings_behind result ≡ value_settings name.now words.now
+        (given_in options.entry) }
     ensures base { IfSome result (λ next. HasIriBase next.options) }
     ensures fewer { IfSome result (λ next. length next.rest.now ≤ length words.now) }
 {
@@ -171,7 +185,8 @@ fn set_then<'a>(
     rest: &'a [Text],
 ) -> Option<Progress<'a>>
     requires { HasIriBase options }
-    ensures settings { settings_behind result ≡ settings_then (set_built name.now value.now (given_in options.entry)) rest.now }
+    ensures settings { settings_behind result ≡ settings_then
+        (set_built name.now value.now (given_in options.entry)) rest.now }
     ensures base { IfSome result (λ next. HasIriBase next.options) }
     ensures rest { IfSome result (λ next. length next.rest.now ≡ length rest.now) }
 {
@@ -184,7 +199,8 @@ fn set_then<'a>(
 /// Sets an option that is built and given for the first time.
 fn set_option<'a>(options: ReadOptions<'a>, name: &[u8], value: &'a [u8]) -> Option<ReadOptions<'a>>
     requires { HasIriBase options }
-    ensures set { option_map given_in result ≡ set_built name.now value.now (given_in options.entry) }
+    ensures set { option_map given_in result ≡ set_built name.now value.now
+        (given_in options.entry) }
     ensures base { IfSome result HasIriBase }
 {
     if name == b"--order".as_slice() {
