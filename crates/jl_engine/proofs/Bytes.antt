@@ -1,5 +1,5 @@
 -- What one byte and the end say, by the laws of the stack.
-use Rattle.std.proofs.Common.{ℕ, ◌+◌, ◌-◌, ◌<◌, ◌≤◌, ◌≡◌, refl, sym, ◌∙◌, ap, subst, arith, Bool, false, List, [], ◌∷◌, ◌++◌, length, take, drop, get_or, Option, Ok, inl, inr, append_assoc, append-nil, length-append}
+use Rattle.std.proofs.Common.{ℕ, ◌+◌, ◌-◌, ◌≡◌, refl, sym, ◌∙◌, ap, subst, arith, Bool, false, List, [], ◌∷◌, ◌++◌, length, take, drop, Option, Ok, inl, inr, append_assoc, append-nil, length-append}
 use Rattle.std.proofs.lemmas.List.{take_all, take-append-drop, length-drop}
 use Rattle.std.specs.Prelude.{IfSome}
 use Rattle.std.specs.Option.{option_to_list}
@@ -24,7 +24,7 @@ use Rattle.jl_engine.specs.TreeEvents.{events_of}
 use Rattle.jl_engine.specs.declared.engines.EngineState.{EngineState}
 use Rattle.jl_engine.specs.declared.stops.Stop.{Stop}
 use Rattle.jl_engine.specs.declared.stops.Stop.TheVariants.{Refused, OutFault, NoMemory}
-use Rattle.jl_engine.proofs.Consequences.{sure, sure-longer, grows}
+use Rattle.jl_engine.proofs.Consequences.{sure, grows}
 use Rattle.jl_engine.proofs.Endings.{end-quiet}
 use Rattle.jl_engine.proofs.Feeding.{run-stands, byte-refused, stopped-wide, nothing-left, byte-stopped, facts-refused, puts-stopped, fed-by, end-refused, end-stopped, end-facts-refused, ended}
 use Rattle.jl_frames.proofs.StreamRun.{stream-says, stream-refuses}

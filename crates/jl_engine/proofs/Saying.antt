@@ -2,8 +2,6 @@
 use Rattle.std.proofs.Common.{◌≡◌, ℕ, ◌+◌, ◌<◌, Bool, List, [], ◌∷◌, ◌++◌, length, take, drop, get_or, inl, inr, Ok, Err, refl, sym, ap, ◌∙◌, subst, append_assoc, append-nil}
 use Rattle.std.proofs.lemmas.List.{take_more, take-append-drop}
 use Rattle.jl_model.specs.Parts.{Parts}
-use Rattle.jl_model.specs.declared.tokens.Token.{Token}
-use Rattle.jl_defs.specs.Context.{Context}
 use Rattle.jl_frames.specs.Answers.{HasCause}
 use Rattle.jl_frames.specs.Facts.{Fact, step}
 use Rattle.jl_frames.specs.Machine.{Step}
@@ -15,9 +13,6 @@ use Rattle.jl_engine.specs.Gathers.{then_gathers, behind, gather}
 use Rattle.jl_engine.specs.Saying.{PutSome, Says, SaysSome, StopsSaying}
 use Rattle.jl_engine.specs.Standing.{WerePut}
 use Rattle.jl_engine.specs.Stops.{IsOutside, of_facts}
-use Rattle.jl_engine.specs.Translation.{events_step}
-use Rattle.jl_engine.specs.TreeEvents.{events_of}
-use Rattle.jl_engine.specs.declared.cursors.Cursor.{Cursor}
 use Rattle.jl_engine.specs.declared.stops.Stop.{Stop}
 use Rattle.jl_engine.specs.declared.stops.Stop.TheVariants.{Refused, OutFault, NoMemory}
 use Rattle.jl_engine.proofs.Feeding.{put-none, put-both}

@@ -1,30 +1,22 @@
 -- Blanks between tokens, and what is taken at once.
-use Rattle.std.proofs.Common.{inl, inr, ◌≡◌, ℕ, zero, suc, ◌+◌, ◌-◌, ◌<◌, ◌≤◌, true, false, cond, ◌||◌, eqb, Bool, List, [], ◌∷◌, ◌++◌, length, take, drop, get_or, Option, Some, None, refl, sym, ap, ◌∙◌, subst, arith, append_assoc, append-nil, add-zero, Ok, IsUtf8}
+use Rattle.std.proofs.Common.{inl, inr, ◌≡◌, ℕ, suc, ◌+◌, ◌≤◌, true, cond, eqb, Bool, List, [], ◌∷◌, ◌++◌, length, take, refl, sym, ap, ◌∙◌, subst, arith, append_assoc, append-nil, add-zero, Ok}
 use Rattle.std.proofs.lemmas.Bool.{false≢true, cases_Bool, eqb-true}
-use Rattle.std.proofs.lemmas.List.{length-take, length-drop, take_all, take_more}
+use Rattle.std.proofs.lemmas.List.{length-take, take_all}
 use Rattle.std.proofs.lemmas.List.Sums.{prefix_len-le-length}
-use Rattle.std.proofs.Math.Seq.{take-add}
 use Rattle.std.specs.List.{AllByRecursion, prefix_len}
 use Rattle.jl_model.specs.JsonText.{IsBlank}
 use Rattle.jl_model.specs.declared.tokens.Token.{Token}
-use Rattle.jl_token.specs.declared.kinds.Kind.{Kind}
 use Rattle.jl_token.specs.declared.kinds.Kind.TheVariants as kinds
-use Rattle.jl_token.specs.declared.opens.Open.{Open}
 use Rattle.jl_token.specs.declared.readings.Reading.{Reading}
 use Rattle.jl_token.specs.declared.readings.Spot.{Spot}
 use Rattle.jl_token.specs.declared.readings.Spot.TheVariants as spots
-use Rattle.jl_token.specs.Machine.{Moved, moved, moved_at, kind_of, next, token_begins, comma, at_value, at_first_item, at_first_key, at_key, at_colon, after_value}
-use Rattle.jl_token.specs.Runs.{is_blank, is_between, behind_blanks, Passes, plain_len, is_plain_spot, string_at, ran}
-use Rattle.jl_token.specs.Left.{FormedAt}
+use Rattle.jl_token.specs.Machine.{Moved, moved, moved_at, kind_of, next, at_value, at_first_item, at_first_key, at_key, at_colon, after_value}
+use Rattle.jl_token.specs.Runs.{is_blank, is_between, behind_blanks, Passes, plain_len, is_plain_spot, ran}
 use Rattle.jl_token.specs.Stands.{IsAt}
-use Rattle.jl_token.proofs.ByteKinds.{kind_blank, kind_34, kind_44, kind_58}
+use Rattle.jl_token.proofs.ByteKinds.{kind_blank}
 use Rattle.jl_token.proofs.OneByte.{step_is_at}
-use Rattle.jl_token.proofs.PlainRuns.{run_is_at, taken_text, plain_len_within}
+use Rattle.jl_token.proofs.PlainRuns.{run_is_at, taken_text}
 use Rattle.jl_token.proofs.WholeChars.{utf8_of}
-
--- the rest of the bytes, as a slice of them
-pub rest_is : (bytes : List ℕ) (at : ℕ) → take (length bytes - at) (drop at bytes) ≡ drop at bytes
-rest_is bytes at = let e : length (drop at bytes) ≡ length bytes - at = length-drop at bytes in take_all (length bytes - at) (drop at bytes) (omega (arith, e))
 
 pub blanks_within : (bytes : List ℕ) → prefix_len is_blank bytes ≤ length bytes
 blanks_within bytes = prefix_len-le-length is_blank bytes
@@ -109,63 +101,3 @@ plain_passes s new n bytes b e i = λ start p given h.
 
 pub nothing_passes : (s : Reading) (bytes : List ℕ) → Passes s s (take 0 bytes)
 nothing_passes s bytes = λ start p given h. subst (λ x. IsAt start x given s) (sym (append-nil p)) h
-
--- ---- bytes that begin a string, and what stands before
-byte_passes : (s new : Reading) (c : ℕ) → moved true 256 s c ≡ Ok ([], new) → Passes s new (c ∷ [])
-byte_passes s new c e = λ start p given h. subst (λ x. IsAt start (p ++ c ∷ []) x new) (append-nil given) (step_is_at start p given s c h ([], new) e)
-
-passes_then : (a b c : Reading) (xs ys : List ℕ) → Passes a b xs → Passes b c ys → Passes a c (xs ++ ys)
-passes_then a b c xs ys f g = λ start p given h. subst (λ x. IsAt start x given c) (append_assoc p xs ys) (g start (p ++ xs) given (f start p given h))
-
--- a front, a byte, and more
-pub passes_on : (a b c d : Reading) (bytes : List ℕ) (n k : ℕ) → n < length bytes → Passes a b (take n bytes) → moved true 256 b (get_or bytes n 0) ≡ Ok ([], c) → Passes c d (take k (take (length bytes - (n + 1)) (drop (n + 1) bytes))) → Passes a d (take (n + 1 + k) bytes)
-passes_on a b c d bytes n k l f e g =
-    let rest : Passes c d (take k (drop (n + 1) bytes)) = subst (λ x. Passes c d (take k x)) (rest_is bytes (n + 1)) g in
-    let front : Passes a c (take (n + 1) bytes) = subst (λ x. Passes a c x) (sym (take_more bytes n 0 l)) (passes_then a b c (take n bytes) (get_or bytes n 0 ∷ []) f (byte_passes b c (get_or bytes n 0) e)) in
-    subst (λ x. Passes a d x) (sym (take-add (n + 1) k bytes)) (passes_then a c d (take (n + 1) bytes) (take k (drop (n + 1) bytes)) front rest)
-
-same_some : (a b : Spot) → ◌≡◌ {A = Option Spot} (Some a) (Some b) → a ≡ b
-same_some a b e = cc
-
-no_some : (b : Spot) → ◌≡◌ {A = Option Spot} None (Some b) → ⊥
-no_some b e = cc
-
-quote_at : (spot inside : Spot) → string_at spot ≡ Some inside → (s : Reading) → moved_at true 256 spot s 34 ≡ Ok ([], token_begins s inside [])
-quote_at spots.Value inside e s = ap (λ x. at_value 256 s 34 x) kind_34 ∙ ap (λ x. Ok ([], token_begins s x [])) (same_some _ inside e)
-quote_at spots.FirstItem inside e s = ap (λ x. at_first_item 256 s 34 x) kind_34 ∙ ap (λ x. Ok ([], token_begins s x [])) (same_some _ inside e)
-quote_at spots.FirstKey inside e s = ap (λ x. at_first_key s x) kind_34 ∙ ap (λ x. Ok ([], token_begins s x [])) (same_some _ inside e)
-quote_at spots.Key inside e s = ap (λ x. at_key s x) kind_34 ∙ ap (λ x. Ok ([], token_begins s x [])) (same_some _ inside e)
-quote_at _ inside e s = absurd (no_some inside e)
-
-pub quote_moves : (s : Reading) (inside : Spot) (c : ℕ) → string_at s.spot ≡ Some inside → c ≡ 34 → moved true 256 s c ≡ Ok ([], token_begins s inside [])
-unfolding moved
-quote_moves s inside c e i = ap (λ x. moved_at true 256 s.spot s x) i ∙ quote_at s.spot inside e s
-
-pub colon_moves : (s : Reading) (c : ℕ) → s.spot ≡ spots.Colon → c ≡ 58 → moved true 256 s c ≡ Ok ([], next s spots.Value s.within)
-unfolding moved
-colon_moves s c e i = ap (λ x. moved_at true 256 s.spot s x) i ∙ ap (λ x. moved_at true 256 x s 58) e ∙ ap (λ x. at_colon s x) kind_58
-
-pub comma_moves : (s : Reading) (c : ℕ) → s.spot ≡ spots.After → c ≡ 44 → moved true 256 s c ≡ comma s s.within
-unfolding moved
-comma_moves s c e i = ap (λ x. moved_at true 256 s.spot s x) i ∙ ap (λ x. moved_at true 256 x s 44) e ∙ ap (λ x. after_value s x) kind_44
-
-pub string_formed : (spot inside : Spot) (within : List Open) → string_at spot ≡ Some inside → FormedAt spot within → FormedAt inside within
-string_formed spots.Value inside within e f = subst (λ x. FormedAt x within) (same_some _ inside e) tt
-string_formed spots.FirstItem inside within e f = subst (λ x. FormedAt x within) (same_some _ inside e) tt
-string_formed spots.FirstKey inside within e f = subst (λ x. FormedAt x within) (same_some _ inside e) (f, tt)
-string_formed spots.Key inside within e f = subst (λ x. FormedAt x within) (same_some _ inside e) (f, tt)
-string_formed _ inside within e f = absurd (no_some inside e)
-
-pub string_between : (spot inside : Spot) → string_at spot ≡ Some inside → is_between spot ≡ true
-string_between spots.Value inside e = refl
-string_between spots.FirstItem inside e = refl
-string_between spots.FirstKey inside e = refl
-string_between spots.Key inside e = refl
-string_between _ inside e = absurd (no_some inside e)
-
-pub string_plain : (spot inside : Spot) → string_at spot ≡ Some inside → is_plain_spot inside ≡ true
-string_plain spots.Value inside e = subst (λ x. is_plain_spot x ≡ true) (same_some _ inside e) refl
-string_plain spots.FirstItem inside e = subst (λ x. is_plain_spot x ≡ true) (same_some _ inside e) refl
-string_plain spots.FirstKey inside e = subst (λ x. is_plain_spot x ≡ true) (same_some _ inside e) refl
-string_plain spots.Key inside e = subst (λ x. is_plain_spot x ≡ true) (same_some _ inside e) refl
-string_plain _ inside e = absurd (no_some inside e)

@@ -19,7 +19,7 @@ mod TokenPlaces
 mod Between
 mod OneByte
 pub mod LexerCalls
-pub mod WholeChars
+mod WholeChars
 mod PlainRuns
 mod AsciiFronts
 mod TextLanes

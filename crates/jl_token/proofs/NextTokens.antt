@@ -1,10 +1,9 @@
 -- Bytes up to and with the one that completes a token.
-use Rattle.std.proofs.Common.{◌≡◌, ℕ, ◌+◌, ◌-◌, ◌<◌, ◌≤◌, ◌^◌, List, [], ◌∷◌, ◌++◌, true, length, take, drop, get_or, refl, sym, ap, ◌∙◌, subst, arith, append_assoc, append-nil, Ok, None, Some}
+use Rattle.std.proofs.Common.{◌≡◌, ℕ, ◌+◌, ◌-◌, ◌<◌, ◌≤◌, List, [], ◌∷◌, ◌++◌, true, length, take, drop, get_or, refl, sym, ap, ◌∙◌, subst, arith, append_assoc, append-nil, Ok, None}
 use Rattle.std.proofs.lemmas.List.{take_more, take_all, length-take, length-drop}
 use Rattle.std.proofs.Math.Seq.{take-add}
 use Rattle.jl_model.specs.declared.codes.Code.TheVariants.{TooLong}
 use Rattle.jl_model.specs.declared.tokens.Token.{Token}
-use Rattle.jl_token.specs.declared.readings.Reading.{Reading}
 use Rattle.jl_token.specs.declared.states.LexState.{LexState}
 use Rattle.jl_token.specs.declared.steps.LexStop.{LexStop}
 use Rattle.jl_token.specs.declared.steps.LexStop.TheVariants.{Refused, NoMemory}
@@ -14,9 +13,7 @@ use Rattle.jl_token.specs.declared.steps.Next.{Next}
 use Rattle.jl_token.specs.declared.steps.Next.TheVariants as nexts
 use Rattle.jl_token.specs.Nexts.{TakesUpTo, StopsUpTo, CountsWithin, Reached, read_len}
 use Rattle.jl_token.specs.Runs.{Runs, Passes}
-use Rattle.jl_token.specs.Stands.{IsAt}
 use Rattle.jl_token.proofs.LexerCalls.{takes, whole_tokens}
-use Rattle.jl_token.proofs.BlankRuns.{rest_is}
 use Rattle.jl_token.proofs.PlainRuns.{take_less}
 
 -- ---- runs, one after another
@@ -31,7 +28,10 @@ byte_runs : (old new : LexState) (byte : ℕ) (tokens : List Token) → Takes ol
 byte_runs old new byte tokens t e = λ start p given h.
     subst (λ x. Stands start (p ++ byte ∷ []) x new) (ap (λ x. given ++ x) e ∙ append-nil given) (t start p given h)
 
--- the rest of the bytes
+-- the rest of the bytes, as a slice of them
+rest_is : (bytes : List ℕ) (at : ℕ) → take (length bytes - at) (drop at bytes) ≡ drop at bytes
+rest_is bytes at = let e : length (drop at bytes) ≡ length bytes - at = length-drop at bytes in take_all (length bytes - at) (drop at bytes) (omega (arith, e))
+
 pub runs_on : (old mid new : LexState) (bytes : List ℕ) (at n : ℕ) → Runs old mid (take at bytes) → Passes mid.reading new.reading (take n (take (length bytes - at) (drop at bytes))) → new.stopped ≡ None → Runs old new (take (at + n) bytes)
 runs_on old mid new bytes at n r p e =
     let q : Passes mid.reading new.reading (take n (drop at bytes)) = subst (λ x. Passes mid.reading new.reading (take n x)) (rest_is bytes at) p in

@@ -1,11 +1,11 @@
 -- Bytes up to and with the one that completes a token, or at which the lexer stops.
-use Rattle.std.specs.Prelude.{◌≡◌, ℕ, ◌-◌, ◌≤◌, Bool, true, false, List, [], ◌∷◌, ◌++◌, take, Some}
+use Rattle.std.specs.Prelude.{◌≡◌, ℕ, ◌+◌, ◌-◌, ◌≤◌, Bool, true, false, List, [], ◌∷◌, ◌++◌, take, Some}
 use Rattle.jl_model.specs.declared.tokens.Token.{Token}
 use Rattle.jl_token.specs.declared.states.LexState.{LexState}
 use Rattle.jl_token.specs.declared.steps.LexStop.{LexStop}
 use Rattle.jl_token.specs.declared.steps.Next.{Next}
 use Rattle.jl_token.specs.declared.steps.Next.TheVariants.{Nothing, Completes, Stopped}
-use Rattle.jl_token.specs.Lexed.{Takes, AreWhole, Stops, told}
+use Rattle.jl_token.specs.Lexed.{Takes, AreWhole, Stops, told, end_of_places}
 use Rattle.jl_token.specs.Runs.{Runs}
 
 -- the lexer takes these bytes: those before the last one complete no token, and the last one these
@@ -35,6 +35,10 @@ abbrev pub read_len : Next → ℕ → ℕ
 read_len Nothing all = all
 read_len (Completes count signs) all = count
 read_len (Stopped count) all = count
+
+-- of the bytes read only the last one may stand beyond the last place
+abbrev pub HavePlaces : LexState → Next → ℕ → Type 0
+HavePlaces old next all = old.reading.at + read_len next all ≤ end_of_places + 1
 
 -- at least one byte completes a token, and no more were read than there were
 abbrev pub CountsWithin : Next → ℕ → Type 0

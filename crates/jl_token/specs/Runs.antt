@@ -81,11 +81,3 @@ behind_blanks s n = record { at = s.at + n; start = s.start; spot = s.spot; part
 -- the text moves on over these bytes, and they complete no token
 abbrev pub Passes : Reading → Reading → List ℕ → Type 0
 Passes old new bytes = (start : ℕ) (p : List ℕ) (given : List Token) → IsAt start p given old → IsAt start (p ++ bytes) given new
-
--- where a string that begins here stands
-abbrev pub string_at : Spot → Option Spot
-string_at spots.Value = Some (spots.InText at.Plain)
-string_at spots.FirstItem = Some (spots.InText at.Plain)
-string_at spots.FirstKey = Some (spots.InKey at.Plain)
-string_at spots.Key = Some (spots.InKey at.Plain)
-string_at _ = None

@@ -1,5 +1,5 @@
 //! The lexer.
-ghost use Rattle.std.specs.Prelude.{◌≡◌, ◌≤◌, ◌<◌, ◌+◌, ◌-◌, ◌^◌, ◌++◌, ℕ, List, [], ◌∷◌, Some, None, Ok, Err, true, false, IfSome, IfNone, IfOk, IfErr, OnOk, OnErr, IsSome, IsNone, IsTrue, IsUtf8, ◌↔◌, ◌⊎◌, length, min, take};
+ghost use Rattle.std.specs.Prelude.{◌≡◌, ◌≤◌, ◌<◌, ◌-◌, ◌^◌, ◌++◌, ℕ, List, [], ◌∷◌, Some, None, Ok, Err, true, false, IfSome, IfNone, IfOk, IfErr, OnOk, OnErr, IsSome, IsNone, IsTrue, IsUtf8, ◌↔◌, ◌⊎◌, length, min, take};
 ghost use Rattle.std.specs.List.{AllByRecursion};
 ghost use Rattle.jl_model.specs.declared.faults.Fault.{Fault};
 ghost use Rattle.jl_model.specs.declared.tokens.Token.{Token};
@@ -11,7 +11,7 @@ ghost use Rattle.jl_token.specs.declared.states.LexState.{LexState};
 ghost use Rattle.jl_token.specs.declared.steps.LexStop.{LexStop};
 ghost use Rattle.jl_token.specs.Machine as machine;
 ghost use Rattle.jl_token.specs.Runs.{run_len, Runs};
-ghost use Rattle.jl_token.specs.Nexts.{CountsWithin, Reached, read_len, goes_on};
+ghost use Rattle.jl_token.specs.Nexts.{CountsWithin, HavePlaces, Reached, goes_on};
 ghost use Rattle.jl_token.specs.TokenTexts.{HasUtf8};
 ghost use Rattle.jl_token.specs.Lexed.{Stands, IsFront, IsFormed, Takes, AreWhole, Stops, Ends, StopsEnd, IsNumberToken, HasOneText, tokens_of, told, open_len};
 
@@ -131,7 +131,7 @@ impl Lexer {
         requires live { self.old.ended ≡ false }
         ensures reached { self.old.stopped ≡ None → Reached result self.old self.new bytes.now }
         ensures bound { CountsWithin result (length bytes.now) }
-        ensures places { self.old.stopped ≡ None → self.old.reading.at + read_len result (length bytes.now) ≤ 2 ^ 40 + 1 }
+        ensures places { self.old.stopped ≡ None → HavePlaces self.old result (length bytes.now) }
         ensures again { IsSome self.old.stopped → (result ≡ Next.Stopped 0) × (self.new ≡ self.old) }
         ensures goes_on { goes_on result ≡ true → self.new.stopped ≡ None }
         ensures stops { goes_on result ≡ false → IsSome self.new.stopped }

@@ -61,8 +61,7 @@ impl Halt {
 
 impl Reading {
     /// Goes on to the next byte.
-    #[inline(always)]
-    pub(crate) fn go_on(&mut self, spot: Spot)
+    fn go_on(&mut self, spot: Spot)
         requires { self.old.at < 2 ^ 63 }
         ensures { self.new ≡ machine.next self.old spot self.old.within }
     {
@@ -71,8 +70,7 @@ impl Reading {
     }
 
     /// A token begins at the byte.
-    #[inline(always)]
-    pub(crate) fn begin_token(&mut self, spot: Spot)
+    fn begin_token(&mut self, spot: Spot)
         requires { self.old.at < 2 ^ 63 }
         ensures { self.new ≡ machine.token_begins self.old spot [] }
     {

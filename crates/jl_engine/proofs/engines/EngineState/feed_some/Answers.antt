@@ -1,4 +1,4 @@
-use Rattle.std.proofs.Common.{◌≡◌, ◌+◌, ◌-◌, ◌≤◌, ◌^◌, ℕ, List, ◌++◌, [], ◌∷◌, min, length, refl, subst, sym, ap, ◌∙◌, take, arith}
+use Rattle.std.proofs.Common.{◌≡◌, ◌+◌, ◌-◌, ◌≤◌, ◌++◌, [], ◌∷◌, length, refl, subst, sym, ap, ◌∙◌, take, arith}
 use Rattle.std.proofs.lemmas.List.{take_all}
 use Rattle.std.specs.Prelude.{IfSome}
 use Rattle.jl_token.specs.Lexed.{Takes, told}
@@ -8,7 +8,6 @@ use Rattle.jl_engine.specs.Stops.{of_lexer}
 use Rattle.jl_engine.specs.declared.engines.EngineState.{EngineState}
 use Rattle.jl_engine.proofs.Bytes.{run-engine, run-before, run-fed, run-stopped, front-stopped, byte-fails, byte-kept, byte-unsaid, kept-bytes}
 use Rattle.jl_engine.proofs.Feeding.{run-stands, fed-run}
-use Rattle.jl_engine.proofs.Outcomes.{on_ok_both, if_err}
 use Rattle.jl_engine.proofs.Steps.{run_more, last_more, stopped_more}
 use Rattle.jl_engine.proofs.engines.EngineState.feed_some.Goals as goal
 

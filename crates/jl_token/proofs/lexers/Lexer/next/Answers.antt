@@ -1,10 +1,10 @@
-use Rattle.std.proofs.Common.{rules, ◌≡◌, ◌+◌, ◌-◌, ◌<◌, ◌≤◌, ◌^◌, min, ℕ, List, length, take, ap, sym, ◌∙◌, subst, refl, arith}
+use Rattle.std.proofs.Common.{rules, ◌≡◌, ◌+◌, ◌<◌, ◌≤◌, ◌^◌, ℕ, List, length, take, ap, ◌∙◌, subst, refl, arith}
 use Rattle.std.proofs.lemmas.List.{take_all, length-take}
 use Rattle.jl_model.specs.declared.codes.Code.TheVariants.{TooLong}
 use Rattle.jl_token.specs.declared.states.LexState.{LexState}
 use Rattle.jl_token.specs.declared.steps.LexStop.{LexStop}
 use Rattle.jl_token.specs.declared.steps.LexStop.TheVariants.{Refused}
-use Rattle.jl_token.specs.Lexed.{IsFormed, IsFormedReading, end_of_places}
+use Rattle.jl_token.specs.Lexed.{IsFormedReading, end_of_places}
 use Rattle.jl_token.specs.Nexts.{Reached, read_len}
 use Rattle.jl_token.specs.Runs.{Runs}
 use Rattle.jl_token.proofs.LexerCalls.{formed_on}
