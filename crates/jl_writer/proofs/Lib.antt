@@ -17,3 +17,4 @@ mod Faultless
 mod Saying
 mod TextReadsBack
 mod WrongTexts
+pub mod WholeChars

@@ -10,7 +10,7 @@ use Rattle.jl_model.specs.JsonStrings.Chars.{none, more}
 use Rattle.jl_model.specs.Ren.{hex_digit}
 use Rattle.jl_defs.specs.Texts.{Text}
 use Rattle.jl_defs.specs.Canon.{string_byte, string_text}
-use Rattle.jl_token.proofs.WholeChars.{utf8_of}
+use Rattle.jl_writer.proofs.WholeChars.{utf8_of}
 use Rattle.jl_writer.proofs.PlainTexts.{plain_byte}
 
 -- ---- bytes of ASCII
