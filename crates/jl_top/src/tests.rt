@@ -761,7 +761,7 @@ fn takes_nothing_for_other_words(rt: HostRuntime) -> Result<(), Fail> {
     let others: [&[&str]; 26] = [
         &[],
         &["read"],
-        &["write"],
+        &["write", "x"],
         &["read", "--order"],
         &["read", "--order="],
         &["read", "--order", ""],

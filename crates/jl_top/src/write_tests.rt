@@ -117,7 +117,7 @@ fn writes_quads(rt: HostRuntime) -> Result<(), Fail> {
         ),
     ];
     for row in &rows {
-        assert!(rt; holds_cut(rt.alloc(), row)?, row.shows);
+        assert!(rt; holds_cut(rt.alloc(), row)?, "{}", row.shows);
     }
     Ok(())
 }
@@ -155,7 +155,7 @@ fn refuses_bad_lines(rt: HostRuntime) -> Result<(), Fail> {
         ),
     ];
     for row in &rows {
-        assert!(rt; holds_cut(rt.alloc(), row)?, row.shows);
+        assert!(rt; holds_cut(rt.alloc(), row)?, "{}", row.shows);
     }
     Ok(())
 }
