@@ -42,3 +42,4 @@ pub mod LabelReads
 pub mod TagReads
 pub mod NameReads
 pub mod SpotReads
+pub mod PartReads

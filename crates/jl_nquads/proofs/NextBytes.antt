@@ -136,6 +136,9 @@ blanks_skipped text rest n h e f =
     subst (λ z. BlanksSkipped text z) (sym whole) (record {
       in_line = in_line_drop (position_or_len is_no_blank text) text h;
       apart = blanks_apart text;
+      blanks = position_or_len is_no_blank text;
+      within = blanks_within text;
+      rest_is = refl;
       continues = λ s l answer k. blank_run s l text answer k;
     })
 

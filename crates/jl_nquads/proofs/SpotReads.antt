@@ -167,11 +167,11 @@ node_object (Literal lit) h = absurd h
 pub typed_object : (t text m : List ℕ) (len : ℕ) (object : Term) → IsUtf8 t → IsFramed Angles text m len → object ≡ literal_of t m None → IsObject object
 typed_object t text m len object u k e = subst IsObject (sym e) (record { text = u; datatype = is_iri text m len k; language = tt })
 
-string_iri : IsIri xsd_string
+pub string_iri : IsIri xsd_string
 unfolding encode
 string_iri = record { utf8 = (xsd_string, (refl, refl)); form = refl }
 
-lang_iri : IsIri rdf_lang_string
+pub lang_iri : IsIri rdf_lang_string
 unfolding encode
 lang_iri = record { utf8 = (rdf_lang_string, (refl, refl)); form = refl }
 

@@ -4,6 +4,7 @@ pub mod Forms
 pub mod LineOuts
 pub mod Spots
 pub mod Nexts
+pub mod PartsRead
 pub mod IriFronts
 pub mod CodePoints
 pub mod EndedLines

@@ -25,7 +25,7 @@ use Rattle.jl_nquads.specs.declared.halts.LineHalt.{LineHalt}
 use Rattle.jl_nquads.specs.declared.halts.LineHalt.TheVariants.{Bad, NoMemory}
 use Rattle.jl_nquads.specs.declared.labels.Label.{Label}
 use Rattle.jl_nquads.specs.declared.labels.Run.{Run}
-use Rattle.jl_nquads.specs.declared.names.Name.{Name}
+use Rattle.jl_nquads.specs.declared.names.TermToken.{TermToken}
 use Rattle.jl_nquads.specs.declared.nexts.Next.TheVariants.{Blank as Space, Dot}
 use Rattle.jl_nquads.specs.declared.tags.Part.{Part}
 use Rattle.jl_nquads.specs.declared.tags.Tag.{Tag}
@@ -75,6 +75,9 @@ LeadsBlank s = (b : ℕ) → leads_to s (tokens.blank b) ≡ Some s
 pub record BlanksSkipped (text rest : List ℕ) : Type 0 where
   pub in_line : IsInLine rest
   pub apart : next_of rest ≡ Space → ⊥
+  pub blanks : ℕ
+  pub within : blanks ≤ length text
+  pub rest_is : rest ≡ drop blanks text
   pub continues : (s : Spot) → LeadsBlank s → Continues s text s rest
 
 -- ---- IRIs and strings
@@ -212,7 +215,7 @@ pub record IsName (dotted : Bool) (text : List ℕ) (term : Term) (len : ℕ) : 
   pub node : IsNode term
   pub continues : (s : Spot) (to : Term → Spot) → LeadsName dotted s to → Continues s text (to term) (drop len text)
 
-abbrev pub NameRead : Bool → List ℕ → Result Name LineHalt → Type 0
+abbrev pub NameRead : Bool → List ℕ → Result TermToken LineHalt → Type 0
 NameRead dotted text (Ok name) = IsName dotted text name.term name.len
 NameRead dotted text (Err halt) = (s : Spot) (to : Term → Spot) → LeadsName dotted s to → ReadsFrom s text (Err halt)
 

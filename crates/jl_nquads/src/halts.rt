@@ -1,4 +1,6 @@
 //! Why a line isn't read.
+ghost use Rattle.std.specs.Prelude.{◌≡◌};
+ghost use Rattle.jl_nquads.specs.LinesRead as spec;
 
 use jl_model::NoMemory;
 
@@ -27,4 +29,15 @@ impl From<NoMemory> for LineHalt {
     fn from(_: NoMemory) -> LineHalt {
         LineHalt::NoMemory
     }
+}
+
+/// The line is bad here, where no token begins that may follow.
+#[inline(never)]
+pub(crate) fn stop(text: &[u8]) -> LineHalt
+    ensures { result ≡ spec.halt_at text.now }
+{
+    LineHalt::Bad(BadPlace {
+        left: text.len(),
+        open: text.is_empty(),
+    })
 }

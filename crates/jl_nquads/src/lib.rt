@@ -18,6 +18,7 @@ mod line_stops;
 mod lines;
 mod names;
 mod nexts;
+mod objects;
 mod read_lines;
 #[cfg(test)]
 mod reader_rows;

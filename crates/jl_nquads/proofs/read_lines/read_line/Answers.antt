@@ -1,57 +1,90 @@
-use Rattle.std.proofs.Common.{◌∙◌, false, None, [], Ok, refl}
+use Rattle.std.proofs.Common.{None, Some, Ok, Err, refl, sym, subst}
 use Rattle.std.proofs.lemmas.Result.{err_from_is_err_and}
-use Rattle.jl_nquads.specs.Nexts.{next_of}
+use Rattle.jl_model.specs.Parts.{parts_of}
+use Rattle.jl_nquads.specs.LinesRead.{ReadsFrom}
+use Rattle.jl_nquads.specs.PartsRead.{EmptyRead}
 use Rattle.jl_nquads.specs.Spots.{begins, has_subject}
-use Rattle.jl_nquads.proofs.NextBytes.{ends_here, stops_here, no_begins}
-use Rattle.jl_nquads.proofs.SpotReads.{name_on, halts_behind, subject_leads, in_line_on}
+use Rattle.jl_nquads.proofs.NameReads.{is_iri}
+use Rattle.jl_nquads.proofs.PartReads.{subject_on, predicate_on, object_on, close_on, some_quad}
+use Rattle.jl_nquads.proofs.SpotReads.{subject_leads, in_line_on}
 use Rattle.jl_nquads.proofs.read_lines.read_line.Goals as goal
 
-pub rest_of-requires : goal.rest_of-requires
-rest_of-requires c = (c.in_ok-name-in-Iri.ensures false).within
-
-pub read_predicate-requires-clause-in_line : goal.read_predicate-requires-clause-in_line
-read_predicate-requires-clause-in_line c = in_line_on c.skip_blanks-text.result.now c.rest_of.result.now c.in_ok-name-in-Iri.name.len c.skip_blanks-text.ensures.in_line c.rest_of.ensures
-
-pub read_predicate-requires-clause-subject : goal.read_predicate-requires-clause-subject
-read_predicate-requires-clause-subject c = (c.in_ok-name-in-Iri.ensures false).node
-
-pub read_predicate-requires-in-Label-clause-in_line : goal.read_predicate-requires-in-Label-clause-in_line
-read_predicate-requires-in-Label-clause-in_line c = in_line_on c.skip_blanks-text.result.now c.rest_of-in-Label.result.now c.in_ok-name-in-Label.name.len c.skip_blanks-text.ensures.in_line c.rest_of-in-Label.ensures
-
-pub returns-in-End : goal.returns-in-End
-returns-in-End c = ends_here begins None c.args.text.now c.skip_blanks-text.result.now c.skip_blanks-text.ensures (λ b. refl) refl c.in-End.ensures
-
-pub returns-in_ok-read_comment-in-Comment : goal.returns-in_ok-read_comment-in-Comment
-returns-in_ok-read_comment-in-Comment c = c.skip_blanks-text.ensures.continues begins (λ b. refl) (Ok None) (c.in_ok-read_comment-in-Comment.ensures begins [] (λ cs. refl))
-
-pub returns-in_err-read_comment-in-Comment : goal.returns-in_err-read_comment-in-Comment
-returns-in_err-read_comment-in-Comment c =
-    let p = err_from_is_err_and c.from_residual-in_err-read_comment-in-Comment.result c.from_residual-in_err-read_comment-in-Comment.ensures.1 in
-    rw (p.1, p.2)
-    (halts_behind begins c.args.text.now c.skip_blanks-text.result.now c.in_err-read_comment-in-Comment.field-0.0 (λ b. refl) c.skip_blanks-text.ensures (c.in_err-read_comment-in-Comment.ensures begins [] (λ cs. refl)))
-
-pub returns-in_err-name-in-Iri : goal.returns-in_err-name-in-Iri
-returns-in_err-name-in-Iri c =
+pub returns-in_err-read_empty : goal.returns-in_err-read_empty
+returns-in_err-read_empty c =
     let p = err_from_is_err_and c.from_residual.result c.from_residual.ensures.1 in
     rw (p.1, p.2)
-    (halts_behind begins c.args.text.now c.skip_blanks-text.result.now c.in_err-name-in-Iri.field-0.0 (λ b. refl) c.skip_blanks-text.ensures (c.in_err-name-in-Iri.ensures false begins has_subject subject_leads))
+    (c.skip_blanks-text.ensures.continues begins (λ b. refl) (Err c.in_err-read_empty.field-0.0)
+    (c.in_err-read_empty.ensures))
 
-pub returns-in_err-name-in-Label : goal.returns-in_err-name-in-Label
-returns-in_err-name-in-Label c =
-    let p = err_from_is_err_and c.from_residual-in_err-name-in-Label.result c.from_residual-in_err-name-in-Label.ensures.1 in
+pub returns-then-branch : goal.returns-then-branch
+returns-then-branch c = c.skip_blanks-text.ensures.continues begins (λ b. refl) (Ok None) (subst (λ z. EmptyRead c.skip_blanks-text.result.now (Ok z)) c.if-branch.true c.in_ok-read_empty.ensures)
+
+pub returns-in_err-subject : goal.returns-in_err-subject
+returns-in_err-subject c =
+    let p = err_from_is_err_and c.from_residual-in_err-subject.result c.from_residual-in_err-subject.ensures.1 in
     rw (p.1, p.2)
-    (halts_behind begins c.args.text.now c.skip_blanks-text.result.now c.in_err-name-in-Label.field-0.0 (λ b. refl) c.skip_blanks-text.ensures (c.in_err-name-in-Label.ensures begins has_subject subject_leads))
+    (c.skip_blanks-text.ensures.continues begins (λ b. refl) (Err c.in_err-subject.field-0.0)
+    (c.in_err-subject.ensures begins has_subject subject_leads (subst (λ z. EmptyRead c.skip_blanks-text.result.now (Ok z)) c.if-branch.false c.in_ok-read_empty.ensures)))
 
-pub returns-in_ok-name-in-Iri : goal.returns-in_ok-name-in-Iri
-returns-in_ok-name-in-Iri c =
-    name_on false begins has_subject c.args.text.now c.skip_blanks-text.result.now c.rest_of.result.now c.in_ok-name-in-Iri.name.term c.in_ok-name-in-Iri.name.len c.read_predicate.result subject_leads (λ b. refl) c.skip_blanks-text.ensures (c.in_ok-name-in-Iri.ensures false) c.rest_of.ensures c.read_predicate.ensures
+pub returns-in_err-predicate : goal.returns-in_err-predicate
+returns-in_err-predicate c =
+    let p = err_from_is_err_and c.from_residual-in_err-predicate.result c.from_residual-in_err-predicate.ensures.1 in
+    rw (p.1, p.2)
+    (c.skip_blanks-text.ensures.continues begins (λ b. refl) (Err c.in_err-predicate.field-0.0)
+    (subject_on c.skip_blanks-text.result.now c.rest_of.result.now c.skip_blanks-text-2.result.now c.in_ok-subject.subject.term c.in_ok-subject.subject.len (Err c.in_err-predicate.field-0.0) c.in_ok-subject.ensures c.rest_of.ensures c.skip_blanks-text-2.ensures
+    (c.in_err-predicate.ensures c.in_ok-subject.subject.term)))
 
-pub returns-in_ok-name-in-Label : goal.returns-in_ok-name-in-Label
-returns-in_ok-name-in-Label c =
-    name_on false begins has_subject c.args.text.now c.skip_blanks-text.result.now c.rest_of-in-Label.result.now c.in_ok-name-in-Label.name.term c.in_ok-name-in-Label.name.len c.read_predicate-in-Label.result subject_leads (λ b. refl) c.skip_blanks-text.ensures c.in_ok-name-in-Label.ensures c.rest_of-in-Label.ensures c.read_predicate-in-Label.ensures
+pub returns-in_err-object : goal.returns-in_err-object
+returns-in_err-object c =
+    let p = err_from_is_err_and c.from_residual-in_err-object.result c.from_residual-in_err-object.ensures.1 in
+    rw (p.1, p.2)
+    (c.skip_blanks-text.ensures.continues begins (λ b. refl) (Err c.in_err-object.field-0.0)
+    (subject_on c.skip_blanks-text.result.now c.rest_of.result.now c.skip_blanks-text-2.result.now c.in_ok-subject.subject.term c.in_ok-subject.subject.len (Err c.in_err-object.field-0.0) c.in_ok-subject.ensures c.rest_of.ensures c.skip_blanks-text-2.ensures
+    (predicate_on c.in_ok-subject.subject.term c.skip_blanks-text-2.result.now c.rest_of-2.result.now c.skip_blanks-text-3.result.now c.in_ok-predicate.predicate.meaning c.in_ok-predicate.predicate.len (Err c.in_err-object.field-0.0) c.in_ok-predicate.ensures c.rest_of-2.ensures c.skip_blanks-text-3.ensures
+    (c.in_err-object.ensures c.in_ok-subject.subject.term c.in_ok-predicate.predicate.meaning))))
 
-pub returns-in_default : goal.returns-in_default
-returns-in_default c =
-    stops_here begins c.args.text.now c.skip_blanks-text.result.now c.stop.result c.skip_blanks-text.ensures (λ b. refl)
-    (no_begins (next_of c.skip_blanks-text.result.now) c.skip_blanks-text.ensures.apart (λ i. c.in_default.not-Iri (c.next_of.ensures ∙ i)) (λ i. c.in_default.not-Label (c.next_of.ensures ∙ i)) (λ i. c.in_default.not-Comment (c.next_of.ensures ∙ i)))
-    (λ i. absurd (c.in_default.not-End (c.next_of.ensures ∙ i))) c.stop.ensures
+pub returns-in_err-close : goal.returns-in_err-close
+returns-in_err-close c =
+    let p = err_from_is_err_and c.from_residual-in_err-close.result c.from_residual-in_err-close.ensures.1 in
+    rw (p.1, p.2)
+    (c.skip_blanks-text.ensures.continues begins (λ b. refl) (Err c.in_err-close.field-0.0)
+    (subject_on c.skip_blanks-text.result.now c.rest_of.result.now c.skip_blanks-text-2.result.now c.in_ok-subject.subject.term c.in_ok-subject.subject.len (Err c.in_err-close.field-0.0) c.in_ok-subject.ensures c.rest_of.ensures c.skip_blanks-text-2.ensures
+    (predicate_on c.in_ok-subject.subject.term c.skip_blanks-text-2.result.now c.rest_of-2.result.now c.skip_blanks-text-3.result.now c.in_ok-predicate.predicate.meaning c.in_ok-predicate.predicate.len (Err c.in_err-close.field-0.0) c.in_ok-predicate.ensures c.rest_of-2.ensures c.skip_blanks-text-3.ensures
+    (object_on c.in_ok-subject.subject.term c.in_ok-predicate.predicate.meaning c.skip_blanks-text-3.result.now c.rest_of-3.result.now c.skip_blanks-text-4.result.now c.in_ok-object.object.term c.in_ok-object.object.len (Err c.in_err-close.field-0.0) c.in_ok-object.ensures c.rest_of-3.ensures c.skip_blanks-text-4.ensures
+    (c.in_err-close.ensures c.in_ok-subject.subject.term c.in_ok-predicate.predicate.meaning c.in_ok-object.object.term)))))
+
+pub returns-in_err-read_end : goal.returns-in_err-read_end
+returns-in_err-read_end c =
+    let p = err_from_is_err_and c.from_residual-in_err-read_end.result c.from_residual-in_err-read_end.ensures.1 in
+    rw (p.1, p.2)
+    (c.skip_blanks-text.ensures.continues begins (λ b. refl) (Err c.in_err-read_end.field-0.0)
+    (subject_on c.skip_blanks-text.result.now c.rest_of.result.now c.skip_blanks-text-2.result.now c.in_ok-subject.subject.term c.in_ok-subject.subject.len (Err c.in_err-read_end.field-0.0) c.in_ok-subject.ensures c.rest_of.ensures c.skip_blanks-text-2.ensures
+    (predicate_on c.in_ok-subject.subject.term c.skip_blanks-text-2.result.now c.rest_of-2.result.now c.skip_blanks-text-3.result.now c.in_ok-predicate.predicate.meaning c.in_ok-predicate.predicate.len (Err c.in_err-read_end.field-0.0) c.in_ok-predicate.ensures c.rest_of-2.ensures c.skip_blanks-text-3.ensures
+    (object_on c.in_ok-subject.subject.term c.in_ok-predicate.predicate.meaning c.skip_blanks-text-3.result.now c.rest_of-3.result.now c.skip_blanks-text-4.result.now c.in_ok-object.object.term c.in_ok-object.object.len (Err c.in_err-read_end.field-0.0) c.in_ok-object.ensures c.rest_of-3.ensures c.skip_blanks-text-4.ensures
+    (close_on c.in_ok-subject.subject.term c.in_ok-predicate.predicate.meaning c.in_ok-object.object.term c.skip_blanks-text-4.result.now c.rest_of-4.result.now c.in_ok-close.close.graph c.in_ok-close.close.len (Err c.in_err-read_end.field-0.0) c.in_ok-close.ensures c.rest_of-4.ensures
+    (c.in_err-read_end.ensures (parts_of c.in_ok-subject.subject.term c.in_ok-predicate.predicate.meaning c.in_ok-object.object.term c.in_ok-close.close.graph)))))))
+
+pub skip_blanks-text-requires-2 : goal.skip_blanks-text-requires-2
+skip_blanks-text-requires-2 c = in_line_on c.skip_blanks-text.result.now c.rest_of.result.now c.in_ok-subject.subject.len c.skip_blanks-text.ensures.in_line c.rest_of.ensures
+
+pub skip_blanks-text-requires-4 : goal.skip_blanks-text-requires-4
+skip_blanks-text-requires-4 c = in_line_on c.skip_blanks-text-3.result.now c.rest_of-3.result.now c.in_ok-object.object.len c.skip_blanks-text-3.ensures.in_line c.rest_of-3.ensures
+
+pub read_end-requires : goal.read_end-requires
+read_end-requires c = in_line_on c.skip_blanks-text-4.result.now c.rest_of-4.result.now c.in_ok-close.close.len c.skip_blanks-text-4.ensures.in_line c.rest_of-4.ensures
+
+pub returns : goal.returns
+returns c =
+    subst (λ z. ReadsFrom begins c.args.text.now (Ok z))
+    (sym (some_quad c.new.result (parts_of c.in_ok-subject.subject.term c.in_ok-predicate.predicate.meaning c.in_ok-object.object.term c.in_ok-close.close.graph) c.new.ensures.formed c.new.ensures.parts (record {
+      subject = c.in_ok-subject.ensures.node;
+      predicate = is_iri c.skip_blanks-text-2.result.now c.in_ok-predicate.predicate.meaning c.in_ok-predicate.predicate.len c.in_ok-predicate.ensures;
+      object = c.in_ok-object.ensures.object;
+      graph = c.in_ok-close.ensures.named;
+    })))
+    (c.skip_blanks-text.ensures.continues begins (λ b. refl) (Ok (Some (parts_of c.in_ok-subject.subject.term c.in_ok-predicate.predicate.meaning c.in_ok-object.object.term c.in_ok-close.close.graph)))
+    (subject_on c.skip_blanks-text.result.now c.rest_of.result.now c.skip_blanks-text-2.result.now c.in_ok-subject.subject.term c.in_ok-subject.subject.len (Ok (Some (parts_of c.in_ok-subject.subject.term c.in_ok-predicate.predicate.meaning c.in_ok-object.object.term c.in_ok-close.close.graph))) c.in_ok-subject.ensures c.rest_of.ensures c.skip_blanks-text-2.ensures
+    (predicate_on c.in_ok-subject.subject.term c.skip_blanks-text-2.result.now c.rest_of-2.result.now c.skip_blanks-text-3.result.now c.in_ok-predicate.predicate.meaning c.in_ok-predicate.predicate.len (Ok (Some (parts_of c.in_ok-subject.subject.term c.in_ok-predicate.predicate.meaning c.in_ok-object.object.term c.in_ok-close.close.graph))) c.in_ok-predicate.ensures c.rest_of-2.ensures c.skip_blanks-text-3.ensures
+    (object_on c.in_ok-subject.subject.term c.in_ok-predicate.predicate.meaning c.skip_blanks-text-3.result.now c.rest_of-3.result.now c.skip_blanks-text-4.result.now c.in_ok-object.object.term c.in_ok-object.object.len (Ok (Some (parts_of c.in_ok-subject.subject.term c.in_ok-predicate.predicate.meaning c.in_ok-object.object.term c.in_ok-close.close.graph))) c.in_ok-object.ensures c.rest_of-3.ensures c.skip_blanks-text-4.ensures
+    (close_on c.in_ok-subject.subject.term c.in_ok-predicate.predicate.meaning c.in_ok-object.object.term c.skip_blanks-text-4.result.now c.rest_of-4.result.now c.in_ok-close.close.graph c.in_ok-close.close.len (Ok (Some (parts_of c.in_ok-subject.subject.term c.in_ok-predicate.predicate.meaning c.in_ok-object.object.term c.in_ok-close.close.graph))) c.in_ok-close.ensures c.rest_of-4.ensures
+    (c.in_ok-read_end.ensures (parts_of c.in_ok-subject.subject.term c.in_ok-predicate.predicate.meaning c.in_ok-object.object.term c.in_ok-close.close.graph)))))))
