@@ -1,10 +1,10 @@
 -- Labels as they are read.
-use Rattle.std.proofs.Common.{◌≡◌, ℕ, zero, suc, ◌+◌, ◌-◌, ◌<◌, ◌≤◌, ◌⊎◌, inl, inr, ◌↔◌, Bool, true, false, not, ◌&&◌, ◌||◌, ◌==◌, nat_lt, List, [], ◌∷◌, ◌++◌, length, take, drop, get_or, Option, Some, None, Result, Ok, Err, if◌then◌else◌, IsTrue, IsFalse, append-nil, append_assoc, refl, sym, ap, ◌∙◌, subst, arith, lit<, length-append}
+use Rattle.std.proofs.Common.{◌≡◌, ℕ, zero, suc, ◌+◌, ◌-◌, ◌<◌, ◌≤◌, ◌⊎◌, inl, inr, ◌↔◌, Bool, true, false, not, cond, ◌&&◌, ◌||◌, ◌==◌, nat_lt, List, [], ◌∷◌, ◌++◌, length, take, drop, get_or, Option, Some, None, Result, Ok, Err, if◌then◌else◌, IsTrue, IsFalse, append-nil, append_assoc, refl, sym, ap, ◌∙◌, subst, arith, lit<, length-append}
 use Rattle.std.proofs.lemmas.Bool.{and_parts, and_from, or_cases, or_left, cases_Bool, cases_lt, cases_eq, false≢true, eq-eqb, eqb-true, ne_eqb, lt-ltb, ltb-true, ltb-false}
-use Rattle.std.proofs.lemmas.List.{take-append-drop, drop_at, take_at, drop-drop}
+use Rattle.std.proofs.lemmas.List.{take-append-drop, drop_at, take_at, drop-drop, length-drop}
 use Rattle.std.proofs.lemmas.List.Folds.{list_all-append}
 use Rattle.std.proofs.lemmas.Str.{encode_ascii, encodes-append, encode_same}
-use Rattle.std.specs.List.{list_all}
+use Rattle.std.specs.List.{list_all, position_or_len}
 use lib.Utf8.{encode, encodes, scalar}
 use Rattle.jl_model.specs.Labels.{last_byte}
 use Rattle.jl_model.specs.Parts.{Parts}
@@ -15,13 +15,14 @@ use Rattle.jl_model.specs.declared.terms.Term.{Term}
 use Rattle.jl_model.specs.declared.terms.Term.TheVariants.{Iri, Blank}
 use Rattle.jl_model.proofs.LineCuts.{ascii_cut}
 use Rattle.jl_nquads.specs.CodePoints.{HasCode, BeginsCode, CodeAt, IsCodeAt}
-use Rattle.jl_nquads.specs.LinesRead.{BreaksBy, ReadsFrom, begins_with, DotsBy, LeadsName, IsRun, is_low, has_colon, label_ends, dot_len, closes_label, Closes, EndsLabel, IsLabelRead, LabelRead}
+use Rattle.jl_nquads.specs.LinesRead.{BreaksBy, ReadsFrom, begins_with, DotsBy, LeadsName, is_word, is_no_word, HasRun, IsRun, is_low, has_colon, label_ends, dot_len, closes_label, Closes, EndsLabel, IsLabelRead, LabelRead}
 use Rattle.jl_nquads.specs.Nexts.{opened_by, allows, StopsBehindDot, StopsBehindLabel}
 use Rattle.jl_nquads.specs.Spots.{Spot, begins, has_dot, leads_to, Breaks, BreaksInside, BreaksAtEnd}
 use Rattle.jl_nquads.specs.declared.code_points.Code.{Code}
 use Rattle.jl_nquads.specs.declared.halts.BadPlace.{BadPlace}
 use Rattle.jl_nquads.specs.declared.halts.LineHalt.{LineHalt}
 use Rattle.jl_nquads.specs.declared.halts.LineHalt.TheVariants.{Bad}
+use Rattle.jl_nquads.specs.declared.code_points.Class.TheVariants.{LabelLater}
 use Rattle.jl_nquads.specs.declared.labels.Run.{Run}
 use Rattle.jl_nquads.specs.declared.nexts.Next.TheVariants.{Dot, Other}
 use Rattle.jl_nquads.proofs.CodeFronts.{has_scalar}
@@ -29,26 +30,16 @@ use Rattle.jl_nquads.proofs.Codes.{encode_some}
 use Rattle.jl_nquads.proofs.LabelBytes.{ClosesLabel, high_opens, first_low, first_high}
 use Rattle.jl_nquads.proofs.LabelStarts.{underscore_unfinished, underscore_broken, label_start_unfinished, label_start_broken}
 use Rattle.jl_nquads.proofs.LabelTokens.{LeadsLabel, is_dot, label_joins, label_unfinished, label_broken}
-use Rattle.jl_nquads.proofs.NextBytes.{begins_is}
+use Rattle.jl_nquads.proofs.NextBytes.{begins_is, place_within}
 use Rattle.jl_nquads.proofs.NoLineEnds.{end_is}
 use Rattle.jl_nquads.proofs.SpotRows.{goes_on}
 use Rattle.jl_nquads.proofs.ReadSteps.{JoinsAll, token_before, bad_at_once}
 use Rattle.jl_nquads.proofs.SpotSteps.{Joins}
 use Rattle.jl_nquads.proofs.Stops.{other_stops}
 use Rattle.jl_nquads.proofs.Texts.{head_is, tail_is}
+use Rattle.jl_nquads.proofs.TokenBodies.{at_below, implied, high_alphanumeric}
 
 -- ---- characters of a label in a row
-
--- these have been read: characters of which the last is no dot, and then dots
-pub record HasRun (text : List ℕ) (kept len : ℕ) : Type 0 where
-  pub characters : List ℕ
-  pub dots : List ℕ
-  pub text_is : text ≡ encodes characters ++ (dots ++ drop len text)
-  pub kept_is : kept ≡ length (encodes characters)
-  pub len_is : len ≡ kept + length dots
-  pub each : IsTrue (list_all goes_on_label characters)
-  pub all_dots : IsTrue (list_all is_dot dots)
-  pub no_dot : (cs : List ℕ) → characters ≡ cs ++ 46 ∷ [] → ⊥
 
 pub no_run : (text : List ℕ) → HasRun text 0 0
 no_run text = record { characters = []; dots = []; text_is = refl; kept_is = refl; len_is = refl; each = refl; all_dots = refl; no_dot = λ cs e. nothing cs e }
@@ -126,6 +117,39 @@ run_more text rest kept len c n h f k g o = record {
 
     size : len + n ≡ length (encodes (h.characters ++ (h.dots ++ c ∷ [])))
     size = omega (arith, ap length spelled, length-append (encodes h.characters) (h.dots ++ encode c), length-append h.dots (encode c), h.kept_is, h.len_is, k.len_is)
+
+-- words more
+word_below : (c : ℕ) → IsTrue (is_word c) → c < 128
+word_below c h = elim (cases_lt c 128) [ inl l ↦ l | inr l ↦ absurd (false≢true (sym (high c l) ∙ h)) ]
+  where
+    high : (c : ℕ) → 128 ≤ c → is_word c ≡ false
+    high c l = rw (high_alphanumeric c l, ne_eqb c 95 (λ e. omega (arith, e, l)), ne_eqb c 58 (λ e. omega (arith, e, l)), ne_eqb c 45 (λ e. omega (arith, e, l))) refl
+
+word_goes : (c : ℕ) → IsTrue (is_word c) → IsTrue (goes_on_label c && not (c == 46))
+word_goes c h = implied (is_word c) (goes_on_label c && not (c == 46)) (at_below 128 (λ k. not (is_word k) || (goes_on_label k && not (k == 46))) c refl (word_below c h)) h
+
+word_code : (c : ℕ) (x : List ℕ) → IsTrue (is_word c) → IsCodeAt (c ∷ x) c 1
+word_code c x h =
+    let e = encode_ascii c (word_below c h) in
+    record { is_scalar = has_scalar LabelLater c (and_parts (goes_on_label c) (not (c == 46)) (word_goes c h)).0; text_is = ap (λ z. z ++ x) (sym e); len_is = ap length (sym e) }
+
+pub run_words : (text rest : List ℕ) (kept len : ℕ) → HasRun text kept len → rest ≡ drop len text → 0 < position_or_len is_no_word rest → HasRun text (len + position_or_len is_no_word rest) (len + position_or_len is_no_word rest)
+run_words text [] kept len h f l = absurd (let z : ⊥ = omega (arith, l) in z)
+run_words text (c ∷ rest) kept len h f l = elim (cases_Bool (is_word c)) [
+  | inr e ↦ absurd (subst (λ b. 0 < cond (not (not b)) (1 + position_or_len is_no_word rest) 0 → ⊥) (sym e) (λ k. let z : ⊥ = omega (arith, k) in z) l)
+  | inl e ↦
+      let p = and_parts (goes_on_label c) (not (c == 46)) (word_goes c e) in
+      let one : HasRun text (len + 1) (len + 1) = run_more text (c ∷ rest) kept len c 1 h f (word_code c rest e) p.0 (λ i. false≢true (sym (ap not (eq-eqb c 46 i)) ∙ p.1)) in
+      let next : rest ≡ drop (len + 1) text = ap (drop 1) f ∙ drop-drop 1 len text in
+      subst (λ b. HasRun text (len + cond (not (not b)) (1 + position_or_len is_no_word rest) 0) (len + cond (not (not b)) (1 + position_or_len is_no_word rest) 0)) (sym e)
+      (elim (cases_lt 0 (position_or_len is_no_word rest)) [
+        | inl m ↦ subst (λ n. HasRun text n n) (let z : len + 1 + position_or_len is_no_word rest ≡ len + (1 + position_or_len is_no_word rest) = omega arith in z) (run_words text rest (len + 1) (len + 1) one next m)
+        | inr m ↦ subst (λ n. HasRun text n n) (let z : len + 1 ≡ len + (1 + position_or_len is_no_word rest) = omega (arith, m) in z) one
+      ])
+]
+
+pub words_within : (text rest : List ℕ) (kept len n : ℕ) → HasRun text kept len → rest ≡ drop len text → n ≡ position_or_len is_no_word rest → len + n ≤ length text
+words_within text rest kept len n h f e = omega (arith, run_within text kept len h, place_within is_no_word rest, ap length f, length-drop len text, e)
 
 -- no further one
 pub run_ends : (text rest : List ℕ) (kept len : ℕ) → HasRun text kept len → rest ≡ drop len text → (HasCode goes_on_label rest → ⊥) → IsRun text (record { kept = kept; len = len })

@@ -96,9 +96,9 @@ in_line_drop (suc n) (c ∷ text) h = in_line_drop n text (and_parts (not_end c)
 
 -- ---- white space
 
-pub blanks_within : (text : List ℕ) → position_or_len is_no_blank text ≤ length text
-blanks_within [] = omega arith
-blanks_within (c ∷ text) = let h = blanks_within text in elim (is_blank c) as (λ b. cond (not (not b)) (1 + position_or_len is_no_blank text) 0 ≤ length (c ∷ text)) [ true ↦ omega arith | false ↦ omega arith ]
+pub place_within : (p : ℕ → Bool) (text : List ℕ) → position_or_len p text ≤ length text
+place_within p [] = omega arith
+place_within p (c ∷ text) = let h = place_within p text in elim (p c) as (λ b. cond (not b) (1 + position_or_len p text) 0 ≤ length (c ∷ text)) [ true ↦ omega arith | false ↦ omega arith ]
 
 pub no_place : (p : ℕ → Bool) (text : List ℕ) → None ≡ position p text → position_or_len p text ≤ length text → length text ≡ position_or_len p text
 no_place p text h within =
@@ -137,7 +137,7 @@ blanks_skipped text rest n h e f =
       in_line = in_line_drop (position_or_len is_no_blank text) text h;
       apart = blanks_apart text;
       blanks = position_or_len is_no_blank text;
-      within = blanks_within text;
+      within = place_within is_no_blank text;
       rest_is = refl;
       continues = λ s l answer k. blank_run s l text answer k;
     })

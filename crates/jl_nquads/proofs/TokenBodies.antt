@@ -49,7 +49,7 @@ high_iri c l =
 scheme_below : (c : ℕ) → IsTrue (is_scheme_byte c) → c < 128
 scheme_below c h = elim (cases_lt c 128) [ inl l ↦ l | inr l ↦ absurd (false≢true (sym (high_scheme c l) ∙ h)) ]
 
-implied : (a b : Bool) → IsTrue (not a || b) → IsTrue a → IsTrue b
+pub implied : (a b : Bool) → IsTrue (not a || b) → IsTrue a → IsTrue b
 implied true b h k = h
 implied false b h k = absurd (false≢true k)
 

@@ -147,6 +147,24 @@ pub record LeadsName (dotted : Bool) (s : Spot) (to : Term → Spot) : Type 0 wh
   pub label : (cs : List ℕ) → leads_to s (tokens.label cs) ≡ Some (to (Blank (ren (encodes cs))))
   pub dots : (term : Term) → DotsBy dotted (to term)
 
+-- ASCII that a label goes on with, but a dot
+abbrev pub is_word : ℕ → Bool
+is_word c = is_ascii_alphanumeric c || (c == 95 || (c == 58 || c == 45))
+
+abbrev pub is_no_word : ℕ → Bool
+is_no_word c = not (is_word c)
+
+-- these have been read: characters of which the last is no dot, and then dots
+pub record HasRun (text : List ℕ) (kept len : ℕ) : Type 0 where
+  pub characters : List ℕ
+  pub dots : List ℕ
+  pub text_is : text ≡ encodes characters ++ (dots ++ drop len text)
+  pub kept_is : kept ≡ length (encodes characters)
+  pub len_is : len ≡ kept + length dots
+  pub each : IsTrue (list_all goes_on_label characters)
+  pub all_dots : IsTrue (list_all (λ c. c == 46) dots)
+  pub no_dot : (cs : List ℕ) → characters ≡ cs ++ 46 ∷ [] → ⊥
+
 -- the characters of a label at the front, without the dots at their end and with them
 pub record IsRun (text : List ℕ) (run : Run) : Type 0 where
   pub characters : List ℕ

@@ -1,9 +1,10 @@
 //! Labels of blank nodes as they are read (RDF 1.1 N-Quads, section 4, `BLANK_NODE_LABEL`).
-ghost use Rattle.std.specs.Prelude.{◌≡◌, ◌↔◌, ◌∷◌, IsTrue};
+ghost use Rattle.std.specs.Prelude.{◌≡◌, ◌≤◌, ◌↔◌, ◌∷◌, IsTrue, position};
+ghost use Rattle.std.specs.List.{position_or_len};
 ghost use Rattle.jl_nquads.specs.CodePoints.{HasCode};
 ghost use Rattle.jl_model.specs.LineTokens as tokens;
 ghost use Rattle.jl_nquads.specs.LinesRead as spec;
-ghost use Rattle.jl_nquads.specs.LinesRead.{IsInLine, IsRun, LabelRead};
+ghost use Rattle.jl_nquads.specs.LinesRead.{IsInLine, HasRun, IsRun, LabelRead};
 
 use super::code_points::{Class, begins_code, begins_label, code_at, goes_on_label};
 use super::halts::{BadPlace, LineHalt};
@@ -30,6 +31,46 @@ struct Run {
     len: usize,
 }
 
+/// Whether the byte is of ASCII, no dot, and a label may go on with it.
+#[inline(always)]
+fn is_word(byte: u8) -> bool
+    ensures { result ≡ spec.is_word byte }
+{
+    byte.is_ascii_alphanumeric() || byte == b'_' || byte == b':' || byte == b'-'
+}
+
+fn first_no_word(text: &[u8]) -> Option<usize>
+    ensures { result ≡ position spec.is_no_word text.now }
+{
+    text.iter().position(|byte| !is_word(*byte))
+}
+
+/// How many such bytes stand at the front. Most labels have no others.
+#[inline(always)]
+fn words_len(text: &[u8]) -> usize
+    ensures { result ≡ position_or_len spec.is_no_word text.now }
+{
+    match first_no_word(text) {
+        Some(at) => at,
+        None => text.len(),
+    }
+}
+
+/// The run with such bytes that stand behind it.
+#[inline(always)]
+fn with_words(text: &[u8], run: Run) -> Run
+    requires { HasRun text.now run.kept run.len }
+    ensures run { HasRun text.now result.kept result.len }
+    ensures grows { run.len ≤ result.len }
+{
+    let words = words_len(rest_of(text, run.len));
+    if words == 0 {
+        return run;
+    }
+    let len = run.len + words;
+    Run { kept: len, len }
+}
+
 /// The characters at the front with which a label may go on.
 fn run_of(text: &[u8]) -> Run
     ensures { IsRun text.now result }
@@ -37,13 +78,15 @@ fn run_of(text: &[u8]) -> Run
     let mut kept = 0;
     let mut len = 0;
     'characters: loop {
-        match code_at(rest_of(text, len)) {
-            None => return Run { kept, len },
+        let run = with_words(text, Run { kept, len });
+        match code_at(rest_of(text, run.len)) {
+            None => return run,
             Some(next) => {
                 if !goes_on_label(next.code) {
-                    return Run { kept, len };
+                    return run;
                 }
-                len += next.len;
+                kept = run.kept;
+                len = run.len + next.len;
                 if next.code != 46 {
                     kept = len;
                 }

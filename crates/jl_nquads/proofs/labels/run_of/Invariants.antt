@@ -1,5 +1,5 @@
 use Rattle.std.proofs.Common.{◌≡◌, ◌-◌, length}
-use Rattle.jl_nquads.proofs.LabelReads.{HasRun}
+use Rattle.jl_nquads.specs.LinesRead.{HasRun}
 use Rattle.jl_nquads.proofs.labels.run_of.Given as goal
 
 abbrev pub invariant-characters : goal.invariant-characters
