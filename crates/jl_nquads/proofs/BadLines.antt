@@ -1,20 +1,20 @@
 -- Where a line breaks, the document does.
-use Rattle.std.proofs.Common.{◌≡◌, ℕ, zero, suc, ◌+◌, ◌<◌, ◌≤◌, ◌⊎◌, inl, inr, Bool, true, false, not, ◌&&◌, List, [], ◌∷◌, ◌++◌, length, Option, Some, None, IsTrue, IsFalse, append-nil, append_assoc, refl, sym, ap, ◌∙◌, subst, arith, length-append}
-use Rattle.std.proofs.lemmas.Bool.{and_parts, false≢true}
+use Rattle.std.proofs.Common.{◌≡◌, ℕ, suc, ◌+◌, ◌≤◌, inl, inr, List, [], ◌∷◌, ◌++◌, length, IsTrue, append-nil, append_assoc, refl, sym, ap, ◌∙◌, subst, arith, length-append}
+use Rattle.std.proofs.lemmas.Bool.{and_parts}
 use Rattle.std.proofs.lemmas.List.Concat.{flat_map-append}
 use Rattle.std.proofs.lemmas.List.Folds.{list_all-append}
 use Rattle.std.specs.List.{list_all}
 use Rattle.jl_model.specs.Parts.{Parts}
 use Rattle.jl_model.specs.LineTokens.{LineToken, token_bytes, is_token, is_row, bytes_of, is_line_end}
 use Rattle.jl_model.specs.LineTokens as tokens
-use Rattle.jl_model.specs.LineGrammar.{Line, Document, last, ended, line_tokens, document_tokens, document_quads, statement_quads, IsDocument, QuadsOf, BeginsLines}
-use Rattle.jl_model.specs.LineFaults.{GoesOn, StopsAt, BreaksLine, EndsInLine, BadLine}
+use Rattle.jl_model.specs.LineGrammar.{Line, Document, last, ended, line_tokens, document_tokens, document_quads, statement_quads, QuadsOf, BeginsLines}
+use Rattle.jl_model.specs.LineFaults.{GoesOn, BreaksLine, BadLine}
 use Rattle.jl_nquads.specs.EndedLines.{EndedLine, ended_tokens, HasEnded}
-use Rattle.jl_nquads.specs.Spots.{Spot, begins, goes, said, Left, Begins, Breaks, BreaksInside, BreaksAtEnd, not_end}
-use Rattle.jl_nquads.proofs.Documents.{rows_join, rows_part, row_at_end, row_alone, goes_front, line_goes, line_no_end, no_end_in, end_inside, first_ends, completes, before, before_tokens, before_quads, ended_row, joined_row, joined_bytes, joined_document}
+use Rattle.jl_nquads.specs.Spots.{begins, goes, Left, Begins, Breaks, BreaksInside, BreaksAtEnd, not_end}
+use Rattle.jl_nquads.proofs.Documents.{rows_part, row_alone, goes_front, line_goes, line_no_end, no_end_in, end_inside, first_ends, completes, before, joined_row, joined_bytes, joined_document}
 use Rattle.jl_nquads.proofs.SaidLines.{line_of, said_line}
 use Rattle.jl_nquads.proofs.SpotRows.{head_is_token, tail_is_row}
-use Rattle.jl_nquads.proofs.Texts.{head_is, tail_is, fronts_of, lists_of}
+use Rattle.jl_nquads.proofs.Texts.{head_is, fronts_of, lists_of}
 
 -- what begins a line begins a document behind lines that have ended
 begins_behind : (done p : List ℕ) (given : List Parts) → HasEnded done given → Begins begins p → BeginsLines (done ++ p)

@@ -1,17 +1,16 @@
 -- Characters between signs, as they are read one run and one escape after the other.
-use Rattle.std.proofs.Common.{◌≡◌, ℕ, zero, suc, ◌+◌, ◌-◌, ◌<◌, ◌≤◌, ◌⊎◌, inl, inr, Bool, true, false, not, ◌&&◌, ◌||◌, ◌==◌, List, [], ◌∷◌, ◌++◌, length, map, flat_map, take, drop, get_or, Some, None, is_some, unwrap_or, IsTrue, IsFalse, refl, sym, ap, ◌∙◌, subst, arith, lit<, length-append, append-nil, append_assoc}
-use Rattle.std.proofs.lemmas.Bool.{cases_Bool, cases_lt, and_parts, and_from, or_cases, false≢true, eqb-true}
-use Rattle.std.proofs.lemmas.List.{take-append-drop, length-take-le, length-drop, drop_at, drop-drop}
+use Rattle.std.proofs.Common.{◌≡◌, ℕ, zero, suc, ◌+◌, ◌<◌, ◌≤◌, inl, inr, Bool, true, false, not, ◌||◌, List, [], ◌∷◌, ◌++◌, length, map, flat_map, take, drop, get_or, None, is_some, unwrap_or, IsTrue, IsFalse, refl, sym, ap, ◌∙◌, subst, arith, lit<, length-append, append-nil, append_assoc}
+use Rattle.std.proofs.lemmas.Bool.{cases_Bool, and_parts, and_from, false≢true}
+use Rattle.std.proofs.lemmas.List.{take-append-drop, length-take-le, drop_at, drop-drop}
 use Rattle.std.proofs.lemmas.List.Concat.{flat_map-append}
 use Rattle.std.proofs.lemmas.List.Folds.{list_all-append}
 use Rattle.std.proofs.lemmas.Str.{encode_ascii}
 use Rattle.std.specs.List.{list_all}
 use lib.Utf8.{encode, encodes, scalar, scalars}
-use Rattle.jl_model.specs.LineTokens.{Written, itself, letter, four, eight, spelling, meaning, meant_byte, character, letter_value, is_uchar}
+use Rattle.jl_model.specs.LineTokens.{Written, itself, letter, four, eight, spelling, meaning, meant_byte, character, letter_value}
 use Rattle.jl_nquads.specs.CharactersRead.{close_of, letters_of, stands_in, AreCharacters, is_stop, IsPlainFront}
 use Rattle.jl_nquads.specs.EscapesRead.{is_escape, StandsFirst, EscapeAt}
 use Rattle.jl_nquads.specs.declared.escaped.Escape.{Escape}
-use Rattle.jl_nquads.specs.declared.framed.Characters.{Characters}
 use Rattle.jl_nquads.specs.declared.framed.Frame.{Frame}
 use Rattle.jl_nquads.specs.declared.framed.Frame.TheVariants.{Angles, Quotes}
 use Rattle.jl_nquads.proofs.Characters.{has_first}

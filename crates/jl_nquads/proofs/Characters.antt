@@ -1,15 +1,15 @@
 -- Written characters in a row: in which way bytes are cut into them, and which bytes begin such a row.
-use Rattle.std.proofs.Common.{◌≡◌, ℕ, zero, suc, ◌+◌, ◌<◌, ◌≤◌, ◌⊎◌, inl, inr, Bool, true, false, not, ◌&&◌, ◌==◌, List, [], ◌∷◌, ◌++◌, length, flat_map, Option, Some, None, is_some, IsTrue, IsFalse, append-nil, append_assoc, refl, sym, ap, ◌∙◌, subst, arith, length-append}
+use Rattle.std.proofs.Common.{◌≡◌, ℕ, zero, suc, ◌<◌, ◌≤◌, ◌⊎◌, inl, inr, Bool, true, not, ◌&&◌, ◌==◌, List, [], ◌∷◌, ◌++◌, length, flat_map, Option, None, is_some, IsTrue, IsFalse, append-nil, append_assoc, refl, sym, ap, ◌∙◌, subst, arith, length-append}
 use Rattle.std.proofs.lemmas.Bool.{and_parts, and_from, false≢true, eqb-true, eq-eqb, cases_eq}
 use Rattle.std.proofs.lemmas.List.Folds.{list_all-append}
 use Rattle.std.proofs.lemmas.List.Concat.{flat_map-append}
 use Rattle.std.proofs.lemmas.Str.{encode_same, encode_ascii, length-encode, len_utf8_bounds}
 use Rattle.std.specs.List.{list_all}
 use lib.Utf8.{encode, scalar}
-use Rattle.jl_model.specs.LineTokens.{Written, itself, letter, four, eight, spelling, meaning, meant_byte, letter_value, is_uchar, is_hex_digit}
+use Rattle.jl_model.specs.LineTokens.{Written, itself, letter, four, eight, spelling, meaning, meant_byte, letter_value, is_uchar}
 use Rattle.jl_model.proofs.LineCuts.{ascii_cut}
 use Rattle.jl_nquads.proofs.Texts.{head_is, tail_is, fronts_of, same_length}
-use Rattle.jl_nquads.proofs.Deciding.{BeginsChar, CanBeTried, decide_begins_char, HasChar, decide_has_char, decide_true, both_decide}
+use Rattle.jl_nquads.proofs.Deciding.{BeginsChar, CanBeTried, decide_begins_char, HasChar, decide_has_char, decide_true}
 
 -- a character as it may be written somewhere: no backslash as itself
 abbrev pub is_spelled : Written → Bool

@@ -1,6 +1,6 @@
 -- Characters at the front of bytes, as code tells them.
-use Rattle.std.proofs.Common.{◌≡◌, ℕ, zero, suc, ◌+◌, ◌-◌, ◌*◌, ◌/◌, ◌%◌, ◌<◌, ◌≤◌, ◌⊎◌, inl, inr, Bool, true, false, not, cond, ◌&&◌, ◌||◌, ◌==◌, nat_lt, nat_le, eqb, min, List, [], ◌∷◌, ◌++◌, length, take, drop, Option, Some, None, IsTrue, IsFalse, IsUtf8, append-nil, append_assoc, refl, sym, ap, ◌∙◌, subst, arith, length-append}
-use Rattle.std.proofs.lemmas.Bool.{and_parts, and_from, or_cases, or_left, or_right, cases_Bool, cases_lt, eqb-true, false≢true, eq-eqb, lt-ltb, le-ltb, le-leb, ltb-true, leb-true}
+use Rattle.std.proofs.Common.{◌≡◌, ℕ, ◌+◌, ◌-◌, ◌*◌, ◌/◌, ◌<◌, ◌≤◌, inl, inr, Bool, true, not, ◌&&◌, ◌||◌, ◌==◌, nat_lt, nat_le, eqb, min, List, [], ◌∷◌, ◌++◌, length, take, drop, IsTrue, IsUtf8, append_assoc, refl, sym, ap, ◌∙◌, subst, arith, length-append}
+use Rattle.std.proofs.lemmas.Bool.{and_parts, and_from, or_cases, cases_lt, eqb-true, false≢true, eq-eqb, lt-ltb, le-ltb, le-leb, ltb-true, leb-true}
 use Rattle.std.proofs.lemmas.List.{take_at, take-append-drop, length-take-le, drop_at}
 use Rattle.std.proofs.lemmas.Str.{length-encode, len_utf8_bounds, encode_ascii, cons_from_encodes}
 use Rattle.std.specs.Char.{is_ascii_alphabetic, is_ascii_alphanumeric}
@@ -9,12 +9,12 @@ use Rattle.std.specs.List.{list_all, starts_with}
 use Rattle.std.specs.Str.Lossy.{utf8_valid_len}
 use lib.Utf8.{encode, encodes, scalar, scalars, next}
 use Rattle.jl_model.specs.Iris.{is_colon, is_scheme_byte, is_iri_byte}
-use Rattle.jl_model.specs.LineTokens.{is_in, base_ranges, further_ranges, begins_label, goes_on_label, is_comment_character, is_line_end}
-use Rattle.jl_nquads.specs.CodePoints.{has, BeginsCode, IsCodeAt, IsAmong}
+use Rattle.jl_model.specs.LineTokens.{is_in, base_ranges, further_ranges, begins_label, goes_on_label, is_line_end}
+use Rattle.jl_nquads.specs.CodePoints.{has, BeginsCode, IsCodeAt}
 use Rattle.jl_nquads.specs.declared.code_points.Class.{Class}
 use Rattle.jl_nquads.specs.declared.code_points.Class.TheVariants.{Any, LabelFirst, LabelLater, Comment, Letter, Scheme, Later}
 use Rattle.jl_nquads.proofs.Codes.{encode_some}
-use Rattle.jl_nquads.proofs.PlainFronts.{valid_is_utf8, valid_is_most, scalar_is, take_take}
+use Rattle.jl_nquads.proofs.PlainFronts.{valid_is_most, scalar_is, take_take}
 use Rattle.jl_nquads.proofs.Texts.{head_is}
 use Rattle.jl_nquads.proofs.TokenBodies.{high_alphanumeric, high_alphabetic, high_scheme}
 

@@ -1,6 +1,6 @@
 -- Characters of a class in a row, and the byte with which bytes begin none of them any more.
-use Rattle.std.proofs.Common.{◌≡◌, ℕ, zero, suc, ◌+◌, ◌<◌, ◌≤◌, ◌⊎◌, inl, inr, Bool, true, false, not, ◌&&◌, ◌||◌, ◌==◌, nat_lt, nat_le, List, [], ◌∷◌, ◌++◌, length, IsTrue, IsFalse, append-nil, append_assoc, refl, sym, ap, ◌∙◌, subst, arith, length-append}
-use Rattle.std.proofs.lemmas.Bool.{and_parts, and_from, or_cases, cases_lt, cases_Bool, false≢true, eqb-true, ltb-true, leb-true, ne_eqb}
+use Rattle.std.proofs.Common.{◌≡◌, ℕ, ◌<◌, ◌⊎◌, inl, inr, Bool, not, ◌&&◌, ◌||◌, ◌==◌, nat_lt, nat_le, List, [], ◌∷◌, ◌++◌, length, IsTrue, append-nil, append_assoc, refl, sym, ap, ◌∙◌, subst, arith}
+use Rattle.std.proofs.lemmas.Bool.{and_parts, or_cases, cases_lt, false≢true, eqb-true, ltb-true, leb-true}
 use Rattle.std.proofs.lemmas.List.Folds.{list_all-append}
 use Rattle.std.proofs.lemmas.Str.{encode_same, length-encode, len_utf8_bounds}
 use Rattle.std.specs.Char.{is_ascii_alphanumeric}
@@ -11,7 +11,7 @@ use Rattle.jl_nquads.specs.CodePoints.{HasCode, BeginsCode}
 use Rattle.jl_nquads.specs.Spots.{not_end}
 use Rattle.jl_nquads.proofs.Deciding.{decide_below, decide_true, decide_begins, both_decide}
 use Rattle.jl_nquads.proofs.NoLineEnds.{char_no_end, within}
-use Rattle.jl_nquads.proofs.Texts.{head_is, tail_is, fronts_of, turns, TurnsIn}
+use Rattle.jl_nquads.proofs.Texts.{head_is, fronts_of, turns, TurnsIn}
 use Rattle.jl_nquads.proofs.TokenBodies.{high_alphanumeric, scalar_below}
 
 -- a class of characters, none of which is a line end

@@ -1,7 +1,7 @@
 -- Comments as they are read.
-use Rattle.std.proofs.Common.{◌≡◌, ℕ, zero, suc, ◌+◌, ◌-◌, ◌<◌, ◌≤◌, ◌⊎◌, inl, inr, ◌↔◌, Bool, true, false, not, ◌&&◌, ◌||◌, ◌==◌, List, [], ◌∷◌, ◌++◌, length, take, drop, Option, Some, None, Result, Ok, Err, IsTrue, IsFalse, IsUtf8, append-nil, append_assoc, refl, sym, ap, ◌∙◌, subst, arith, length-append}
+use Rattle.std.proofs.Common.{◌≡◌, ℕ, suc, ◌+◌, ◌-◌, ◌<◌, inl, inr, ◌↔◌, Bool, true, false, List, [], ◌∷◌, ◌++◌, length, take, drop, Err, IsTrue, IsUtf8, append_assoc, refl, sym, ap, ◌∙◌, subst, arith, length-append}
 use Rattle.std.proofs.lemmas.Bool.{and_parts, and_from, cases_lt, false≢true, ne_eqb}
-use Rattle.std.proofs.lemmas.List.{take-append-drop, length-take-le, take_at, drop_all}
+use Rattle.std.proofs.lemmas.List.{take-append-drop, length-take-le, take_at}
 use Rattle.std.proofs.lemmas.List.Folds.{list_all-append}
 use Rattle.std.proofs.lemmas.Str.{encode_ascii, IsUtf8-append, utf8_valid_len_le}
 use Rattle.std.specs.List.{list_all}
@@ -11,8 +11,8 @@ use Rattle.jl_model.specs.Parts.{Parts}
 use Rattle.jl_model.specs.LineTokens.{is_comment_character, is_line_end}
 use Rattle.jl_model.specs.LineTokens as tokens
 use Rattle.jl_nquads.specs.CodePoints.{HasCode, BeginsCode}
-use Rattle.jl_nquads.specs.LinesRead.{IsInLine, BreaksBy, ReadsFrom, CommentRead, LeadsComment, begins_with}
-use Rattle.jl_nquads.specs.Spots.{Spot, has_comment, leads_to, not_end, Left}
+use Rattle.jl_nquads.specs.LinesRead.{IsInLine, BreaksBy, ReadsFrom, LeadsComment, begins_with}
+use Rattle.jl_nquads.specs.Spots.{Spot, has_comment, not_end, Left}
 use Rattle.jl_nquads.specs.declared.halts.BadPlace.{BadPlace}
 use Rattle.jl_nquads.specs.declared.halts.LineHalt.TheVariants.{Bad}
 use Rattle.jl_nquads.proofs.Codes.{encode_some}

@@ -1,5 +1,5 @@
 -- Comments: how far they go, and where they break.
-use Rattle.std.proofs.Common.{◌≡◌, ℕ, zero, suc, ◌+◌, ◌<◌, ◌≤◌, ◌⊎◌, inl, inr, Bool, true, false, ◌&&◌, nat_eq, List, [], ◌∷◌, ◌++◌, length, Option, Some, None, IsTrue, IsFalse, append-nil, append_assoc, refl, sym, ap, ◌∙◌, subst, arith, lit<, length-append}
+use Rattle.std.proofs.Common.{◌≡◌, ℕ, suc, ◌<◌, ◌≤◌, ◌⊎◌, inl, inr, true, ◌&&◌, nat_eq, List, [], ◌∷◌, ◌++◌, length, Option, Some, IsTrue, IsFalse, append-nil, append_assoc, refl, sym, ap, ◌∙◌, subst, arith, lit<, length-append}
 use Rattle.std.proofs.lemmas.Bool.{and_parts, and_from, eq-eqb, false≢true}
 use Rattle.std.proofs.lemmas.List.Folds.{list_all-append}
 use Rattle.std.proofs.lemmas.Str.{encodes-append}
@@ -10,7 +10,7 @@ use Rattle.jl_model.specs.LineTokens.{LineToken, token_bytes, is_token, ends_bef
 use Rattle.jl_model.specs.LineTokens as tokens
 use Rattle.jl_model.proofs.LineCuts.{opens, opening}
 use Rattle.jl_nquads.specs.CodePoints.{HasCode, BeginsCode}
-use Rattle.jl_nquads.specs.Spots.{Spot, has_comment, leads_to, goes, said, Left, Breaks, BreaksInside, BreaksAtEnd, Reaches}
+use Rattle.jl_nquads.specs.Spots.{Spot, has_comment, leads_to, goes, Breaks, BreaksInside, BreaksAtEnd, Reaches}
 use Rattle.jl_nquads.proofs.Codes.{rows_of, Ends, no_further, none_at_end, none_before_end, code_turns, in_comment}
 use Rattle.jl_nquads.proofs.SpotRows.{goes_on, goes_where, said_goes, row_from, head_is_token}
 use Rattle.jl_nquads.proofs.Texts.{tail_is}

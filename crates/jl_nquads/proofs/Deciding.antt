@@ -1,8 +1,7 @@
 -- What can be decided by trying.
-use Rattle.std.proofs.Common.{◌≡◌, ℕ, zero, suc, ◌+◌, ◌<◌, ◌≤◌, ◌⊎◌, inl, inr, Bool, true, false, ◌&&◌, leb, List, [], ◌∷◌, ◌++◌, length, Option, Some, None, IsTrue, refl, sym, ap, ◌∙◌, subst, arith}
+use Rattle.std.proofs.Common.{◌≡◌, ℕ, zero, suc, ◌<◌, ◌≤◌, ◌⊎◌, inl, inr, Bool, true, false, ◌&&◌, leb, List, [], ◌∷◌, ◌++◌, length, IsTrue, refl, sym, ap, ◌∙◌, subst, arith}
 use Rattle.std.proofs.lemmas.Bool.{cases_lt, cases_eq, and_parts, and_from, false≢true, le-leb, lt-leb}
 use Rattle.std.specs.List.{list_all}
-use lib.Utf8.{encode}
 use Rattle.jl_model.specs.JsonStrings.{hex_value}
 use Rattle.jl_model.specs.LineTokens.{Written, itself, letter, four, eight, spelling, is_hex_digit}
 use Rattle.jl_nquads.proofs.Texts.{head_is, tail_is}

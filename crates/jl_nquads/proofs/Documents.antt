@@ -1,5 +1,5 @@
 -- From a line to the document that it stands in.
-use Rattle.std.proofs.Common.{◌≡◌, ℕ, zero, suc, ◌+◌, ◌<◌, ◌≤◌, ◌⊎◌, inl, inr, Bool, true, false, not, ◌&&◌, List, [], ◌∷◌, ◌++◌, length, flat_map, Option, Some, None, codes, IsTrue, IsFalse, append-nil, append_assoc, refl, sym, ap, ◌∙◌, subst, arith, length-append}
+use Rattle.std.proofs.Common.{◌≡◌, ℕ, inl, inr, not, List, [], ◌∷◌, ◌++◌, Option, Some, IsTrue, append-nil, append_assoc, refl, sym, ap, ◌∙◌, subst}
 use Rattle.std.proofs.lemmas.Bool.{and_parts, and_from, false≢true}
 use Rattle.std.proofs.lemmas.List.Concat.{flat_map-append}
 use Rattle.std.proofs.lemmas.List.Folds.{list_all-append}
@@ -8,10 +8,9 @@ use Rattle.jl_model.specs.Parts.{Parts}
 use lib.Utf8.{encode}
 use Rattle.jl_model.specs.LineTokens.{itself, LineToken, token_bytes, is_token, ends_before, is_row, bytes_of, is_line_end}
 use Rattle.jl_model.specs.LineTokens as tokens
-use Rattle.jl_model.specs.LineGrammar.{Line, Document, last, ended, line_tokens, document_tokens, document_quads, statement_quads, IsDocument, QuadsOf, BeginsLines}
-use Rattle.jl_model.specs.LineFaults.{GoesOn, StopsAt, BreaksLine, EndsInLine, BadLine}
+use Rattle.jl_model.specs.LineGrammar.{Line, Document, last, ended, line_tokens, document_tokens, document_quads, statement_quads, QuadsOf}
 use Rattle.jl_nquads.specs.EndedLines.{EndedLine, ended_tokens, ended_quads, HasEnded}
-use Rattle.jl_nquads.specs.Spots.{Spot, begins, has_subject, has_predicate, has_string, has_carets, has_object, has_graph, has_dot, has_comment, leads_to, goes, said, Left, Begins, StandsAt, Reaches, Breaks, BreaksInside, BreaksAtEnd, not_end}
+use Rattle.jl_nquads.specs.Spots.{Spot, begins, has_subject, has_predicate, has_string, has_carets, has_object, has_graph, has_dot, has_comment, leads_to, goes, said, Left, not_end}
 use Rattle.jl_nquads.proofs.NoLineEnds.{is_inside, token_no_end, ends_at_line_end}
 use Rattle.jl_nquads.proofs.SaidLines.{said_line, line_of}
 use Rattle.jl_nquads.proofs.SpotRows.{goes_on, goes_where, said_on, said_goes, row_from, head_is_token, head_ends, tail_is_row, ends_before_next, ends_at_end, ends_same}

@@ -1,12 +1,11 @@
 -- Which escape stands at the front of a text.
-use Rattle.std.proofs.Common.{◌≡◌, ℕ, suc, ◌+◌, ◌<◌, ◌≤◌, ◌⊎◌, inl, inr, Bool, true, false, ◌&&◌, ◌==◌, nat_lt, nat_le, cond, List, [], ◌∷◌, ◌++◌, length, take, drop, Option, Some, None, is_some, unwrap_or, IsTrue, IsFalse, refl, sym, ap, ◌∙◌, subst, arith, length-append}
-use Rattle.std.proofs.lemmas.Bool.{cases_Bool, and_parts, and_from, cond_both, false≢true, eqb-true, eq-eqb, eqb-false, ltb-true, ltb-false, leb-true, le-leb}
+use Rattle.std.proofs.Common.{◌≡◌, ℕ, suc, ◌≤◌, Bool, true, false, ◌&&◌, ◌==◌, nat_lt, nat_le, cond, List, [], ◌∷◌, ◌++◌, length, take, drop, Option, Some, None, is_some, unwrap_or, IsTrue, refl, sym, ap, ◌∙◌, subst, arith, length-append}
+use Rattle.std.proofs.lemmas.Bool.{and_parts, and_from, cond_both, false≢true, eqb-true, eq-eqb, eqb-false, ltb-true, ltb-false, le-leb}
 use Rattle.std.proofs.lemmas.List.{length-take-le, take-append-drop, take_at}
 use Rattle.std.specs.List.{list_all}
 use lib.Utf8.{scalar}
-use Rattle.jl_model.specs.LineTokens.{Written, itself, letter, four, eight, spelling, character, letter_value, is_uchar, is_hex_digit, hex_number}
-use Rattle.jl_nquads.specs.declared.escaped.Escape.{Escape}
-use Rattle.jl_nquads.specs.EscapesRead.{code_value, is_escape, StandsFirst, EscapeAt, scalar_or_none, digits_value, with_len, escape_by, escape_first}
+use Rattle.jl_model.specs.LineTokens.{Written, itself, letter, four, eight, spelling, letter_value, is_uchar, is_hex_digit, hex_number}
+use Rattle.jl_nquads.specs.EscapesRead.{code_value, is_escape, EscapeAt, scalar_or_none, digits_value, with_len, escape_by, escape_first}
 use Rattle.jl_nquads.proofs.Texts.{head_is, tail_is}
 use Rattle.jl_nquads.proofs.TokenBodies.{scalar_below}
 

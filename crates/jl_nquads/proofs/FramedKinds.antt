@@ -1,6 +1,5 @@
 -- IRIs and strings are tokens of characters between signs.
-use Rattle.std.proofs.Common.{◌≡◌, ℕ, true, false, List, [], ◌∷◌, ◌++◌, IsTrue, refl, lit<}
-use Rattle.std.specs.List.{list_all}
+use Rattle.std.proofs.Common.{false, [], ◌∷◌, refl, lit<}
 use lib.Utf8.{encode}
 use Rattle.jl_model.specs.Iris.{has_iri_form}
 use Rattle.jl_model.specs.LineTokens.{itself, is_string_character}

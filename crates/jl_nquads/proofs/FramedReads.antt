@@ -1,9 +1,8 @@
 -- IRIs and strings as they are read.
-use Rattle.std.proofs.Common.{◌≡◌, ℕ, zero, suc, ◌+◌, ◌-◌, ◌<◌, ◌≤◌, ◌⊎◌, inl, inr, ◌↔◌, Bool, true, false, not, ◌&&◌, ◌||◌, ◌==◌, List, [], ◌∷◌, ◌++◌, length, flat_map, take, drop, Option, Some, None, Result, Ok, Err, IsTrue, IsFalse, append-nil, append_assoc, refl, sym, ap, ◌∙◌, subst, arith, length-append}
-use Rattle.std.proofs.lemmas.Bool.{and_parts, and_from, cases_eq, or_cases, false≢true, eq-eqb, eqb-true, ne_eqb}
-use Rattle.std.proofs.lemmas.List.{take-append-drop, drop_at}
+use Rattle.std.proofs.Common.{◌≡◌, ℕ, suc, ◌+◌, inl, inr, ◌↔◌, Bool, true, false, not, ◌&&◌, ◌||◌, ◌==◌, List, [], ◌∷◌, ◌++◌, length, flat_map, drop, Option, Some, Result, Err, IsTrue, IsFalse, append-nil, append_assoc, refl, sym, ap, ◌∙◌, subst, arith, length-append}
+use Rattle.std.proofs.lemmas.Bool.{and_parts, and_from, cases_eq, false≢true, eq-eqb, ne_eqb}
+use Rattle.std.proofs.lemmas.List.{drop_at}
 use Rattle.std.proofs.lemmas.List.Folds.{list_all-append}
-use Rattle.std.proofs.lemmas.Str.{encode_ascii}
 use Rattle.std.specs.List.{list_all}
 use lib.Utf8.{encode, scalar}
 use Rattle.jl_model.specs.Parts.{Parts}
@@ -13,7 +12,7 @@ use Rattle.jl_model.specs.LineTokens as tokens
 use Rattle.jl_nquads.specs.CharactersRead.{close_of, stands_in, AreCharacters}
 use Rattle.jl_nquads.specs.IriFronts.{begins_iri, may_stand, GoesOnBy}
 use Rattle.jl_nquads.specs.LinesRead.{IsInLine, BreaksBy, ReadsFrom, begins_with, good_in, fine_in, open_of, IsFramed, NoneStands, NotClosed, IsUnframed}
-use Rattle.jl_nquads.specs.Spots.{Spot, leads_to, not_end, BreaksAtEnd, BreaksInside}
+use Rattle.jl_nquads.specs.Spots.{Spot, leads_to, not_end}
 use Rattle.jl_nquads.specs.declared.framed.Characters.{Characters}
 use Rattle.jl_nquads.specs.declared.framed.Frame.{Frame}
 use Rattle.jl_nquads.specs.declared.framed.Frame.TheVariants.{Angles, Quotes}

@@ -1,20 +1,15 @@
 -- IRIs and strings as tokens: one way of reading them, and where they break.
-use Rattle.std.proofs.Common.{◌≡◌, ℕ, zero, suc, ◌+◌, ◌<◌, ◌≤◌, ◌⊎◌, inl, inr, Bool, true, false, not, ◌&&◌, List, [], ◌∷◌, ◌++◌, length, flat_map, Option, Some, None, codes, IsTrue, IsFalse, append-nil, append_assoc, refl, sym, ap, ◌∙◌, subst, arith, length-append}
-use Rattle.std.proofs.lemmas.Bool.{and_parts, and_from, cases_eq, false≢true}
-use Rattle.std.proofs.lemmas.List.{append_cancel_left}
+use Rattle.std.proofs.Common.{◌≡◌, ℕ, ◌<◌, ◌≤◌, ◌⊎◌, inl, inr, Bool, List, [], ◌∷◌, ◌++◌, length, flat_map, Some, IsTrue, append-nil, append_assoc, refl, sym, ap, ◌∙◌, subst, arith}
+use Rattle.std.proofs.lemmas.Bool.{and_parts, cases_eq}
 use Rattle.std.specs.List.{list_all}
-use Rattle.jl_model.specs.Iris.{has_iri_form}
-use Rattle.jl_model.specs.LineTokens.{Written, spelling, meaning, meant_byte, is_string_character, LineToken, token_bytes, is_token, ends_before, is_row, bytes_of, is_line_end}
-use Rattle.jl_model.specs.LineTokens as tokens
-use Rattle.jl_model.proofs.LineCuts.{opens, only_iri, only_string}
-use Rattle.jl_nquads.specs.IriFronts.{begins_iri, may_stand, GoesOnBy}
-use Rattle.jl_nquads.specs.Spots.{Spot, leads_to, goes, BreaksInside, BreaksAtEnd}
-use Rattle.jl_nquads.proofs.Characters.{Body, FrontsBody, Closes, characters_behind, same_characters, fronts_behind, fronts_only_behind, fronts_at_end, fine_of_front, fronts_at_close, fronts_within, only_within, decide_fronts, no_close}
+use Rattle.jl_model.specs.LineTokens.{Written, spelling, meaning, LineToken, token_bytes, is_token, ends_before, bytes_of}
+use Rattle.jl_nquads.specs.IriFronts.{GoesOnBy}
+use Rattle.jl_nquads.specs.Spots.{Spot, leads_to, BreaksInside, BreaksAtEnd}
+use Rattle.jl_nquads.proofs.Characters.{Body, FrontsBody, characters_behind, same_characters, fronts_behind, fronts_only_behind, fronts_at_end, fine_of_front, fronts_at_close, fronts_within, only_within, decide_fronts}
 use Rattle.jl_nquads.proofs.NoLineEnds.{is_inside}
 use Rattle.jl_nquads.proofs.SpotRows.{head_is_token}
 use Rattle.jl_nquads.proofs.SpotSteps.{Alone, Joins}
 use Rattle.jl_nquads.proofs.Texts.{head_is, tail_is}
-use Rattle.jl_nquads.proofs.TokenBodies.{iri_body, string_body, any, iri_from, iri_to}
 use Rattle.jl_nquads.proofs.TokenBreaks.{Opens, Fronts, NoToken, token_unfinished, token_broken}
 
 -- tokens of characters between an opening and a closing byte: such a token, and which of them there are

@@ -1,10 +1,10 @@
 -- The form of IRIs, byte by byte, and the beginnings of IRIs.
-use Rattle.std.proofs.Common.{◌≡◌, ℕ, zero, suc, ◌+◌, ◌<◌, ◌≤◌, ◌⊎◌, inl, inr, Bool, true, false, not, ◌&&◌, ◌||◌, ◌==◌, cond, nat_lt, List, [], ◌∷◌, ◌++◌, length, take, drop, Option, Some, None, codes, IsTrue, append-nil, append_assoc, refl, sym, ap, ◌∙◌, subst, arith}
-use Rattle.std.proofs.lemmas.Bool.{cases_Bool, and_parts, and_from, false≢true, cond-true, cond-false, eqb-true, ltb-true, ltb-false, lt-ltb, le-ltb}
+use Rattle.std.proofs.Common.{◌≡◌, ℕ, suc, ◌+◌, ◌<◌, ◌≤◌, inl, inr, Bool, true, false, not, ◌&&◌, cond, nat_lt, List, [], ◌∷◌, ◌++◌, length, take, drop, Option, Some, None, codes, IsTrue, refl, sym, ap, ◌∙◌, arith}
+use Rattle.std.proofs.lemmas.Bool.{cases_Bool, and_parts, and_from, cond-true, cond-false, eqb-true, ltb-true, ltb-false, lt-ltb, le-ltb}
 use Rattle.std.proofs.lemmas.List.Folds.{list_all-append}
 use Rattle.std.specs.Char.{is_ascii_alphabetic}
 use Rattle.std.specs.List.{list_all, position, position_or_len}
-use Rattle.jl_model.specs.Iris.{is_scheme_byte, is_iri_byte, is_colon, is_scheme, has_form_at, has_iri_form}
+use Rattle.jl_model.specs.Iris.{is_scheme_byte, is_iri_byte, is_colon, has_form_at, has_iri_form}
 use Rattle.jl_nquads.specs.IriFronts.{goes_on_scheme, begins_iri}
 
 -- what stands behind the first letter of an IRI

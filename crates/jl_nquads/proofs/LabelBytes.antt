@@ -1,12 +1,12 @@
 -- The bytes of labels, and what may stand behind a label.
-use Rattle.std.proofs.Common.{◌≡◌, ℕ, zero, suc, ◌+◌, ◌<◌, ◌≤◌, ◌⊎◌, inl, inr, Bool, true, false, not, ◌&&◌, ◌||◌, ◌==◌, nat_lt, List, [], ◌∷◌, ◌++◌, length, Option, Some, None, IsTrue, IsFalse, append-nil, append_assoc, refl, sym, ap, ◌∙◌, subst, arith, length-append, get_or}
-use Rattle.std.proofs.lemmas.Bool.{and_parts, and_from, or_cases, or_left, or_right, cases_lt, cases_Bool, false≢true, eqb-true, ne_eqb, ltb-true}
+use Rattle.std.proofs.Common.{◌≡◌, ℕ, ◌<◌, ◌≤◌, ◌⊎◌, inl, inr, Bool, true, false, not, ◌&&◌, ◌||◌, ◌==◌, nat_lt, List, [], ◌∷◌, ◌++◌, IsTrue, append_assoc, refl, sym, ap, ◌∙◌, arith}
+use Rattle.std.proofs.lemmas.Bool.{and_parts, and_from, or_cases, cases_lt, cases_Bool, false≢true, eqb-true, ne_eqb, ltb-true}
 use Rattle.std.proofs.lemmas.List.Folds.{list_all-append}
 use Rattle.std.proofs.lemmas.Str.{encode_ascii}
 use Rattle.std.specs.List.{list_all}
-use lib.Utf8.{encode, encodes}
+use lib.Utf8.{encode}
 use Rattle.jl_model.specs.Labels.{last_byte}
-use Rattle.jl_model.specs.LineTokens.{is_label, begins_label, goes_on_label, is_in, further_ranges}
+use Rattle.jl_model.specs.LineTokens.{is_label, begins_label, goes_on_label}
 use Rattle.jl_model.proofs.LineCuts.{ascii_cut}
 use Rattle.jl_nquads.specs.LinesRead.{closes_label}
 use Rattle.jl_nquads.specs.Nexts.{opened_by}

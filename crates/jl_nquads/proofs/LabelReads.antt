@@ -1,7 +1,7 @@
 -- Labels as they are read.
-use Rattle.std.proofs.Common.{◌≡◌, ℕ, zero, suc, ◌+◌, ◌-◌, ◌<◌, ◌≤◌, ◌⊎◌, inl, inr, ◌↔◌, Bool, true, false, not, cond, ◌&&◌, ◌||◌, ◌==◌, nat_lt, List, [], ◌∷◌, ◌++◌, length, take, drop, get_or, Option, Some, None, Result, Ok, Err, if◌then◌else◌, IsTrue, IsFalse, append-nil, append_assoc, refl, sym, ap, ◌∙◌, subst, arith, lit<, length-append}
-use Rattle.std.proofs.lemmas.Bool.{and_parts, and_from, or_cases, or_left, cases_Bool, cases_lt, cases_eq, false≢true, eq-eqb, eqb-true, ne_eqb, lt-ltb, ltb-true, ltb-false}
-use Rattle.std.proofs.lemmas.List.{take-append-drop, drop_at, take_at, drop-drop, length-drop}
+use Rattle.std.proofs.Common.{◌≡◌, ℕ, suc, ◌+◌, ◌-◌, ◌<◌, ◌≤◌, inl, inr, ◌↔◌, Bool, true, false, not, cond, ◌&&◌, ◌||◌, ◌==◌, nat_lt, List, [], ◌∷◌, ◌++◌, length, take, drop, Option, Some, None, Result, Err, if◌then◌else◌, IsTrue, IsFalse, append-nil, append_assoc, refl, sym, ap, ◌∙◌, subst, arith, lit<, length-append}
+use Rattle.std.proofs.lemmas.Bool.{and_parts, and_from, or_left, cases_Bool, cases_lt, cases_eq, false≢true, eq-eqb, eqb-true, ne_eqb, lt-ltb, ltb-true, ltb-false}
+use Rattle.std.proofs.lemmas.List.{drop_at, take_at, drop-drop, length-drop}
 use Rattle.std.proofs.lemmas.List.Folds.{list_all-append}
 use Rattle.std.proofs.lemmas.Str.{encode_ascii, encodes-append, encode_same}
 use Rattle.std.specs.List.{list_all, position_or_len}
@@ -12,29 +12,26 @@ use Rattle.jl_model.specs.Ren.{ren}
 use Rattle.jl_model.specs.LineTokens.{is_label, begins_label, goes_on_label, is_in, further_ranges, is_line_end, token_bytes, is_token, ends_before}
 use Rattle.jl_model.specs.LineTokens as tokens
 use Rattle.jl_model.specs.declared.terms.Term.{Term}
-use Rattle.jl_model.specs.declared.terms.Term.TheVariants.{Iri, Blank}
+use Rattle.jl_model.specs.declared.terms.Term.TheVariants.{Blank}
 use Rattle.jl_model.proofs.LineCuts.{ascii_cut}
 use Rattle.jl_nquads.specs.CodePoints.{HasCode, BeginsCode, CodeAt, IsCodeAt}
-use Rattle.jl_nquads.specs.LinesRead.{BreaksBy, ReadsFrom, begins_with, DotsBy, LeadsName, is_word, is_no_word, HasRun, IsRun, is_low, has_colon, label_ends, dot_len, closes_label, Closes, EndsLabel, IsLabelRead, LabelRead}
-use Rattle.jl_nquads.specs.Nexts.{opened_by, allows, StopsBehindDot, StopsBehindLabel}
+use Rattle.jl_nquads.specs.LinesRead.{BreaksBy, ReadsFrom, begins_with, DotsBy, LeadsName, is_word, is_no_word, HasRun, IsRun, is_low, has_colon, label_ends, dot_len, closes_label, Closes, EndsLabel, IsLabelRead}
+use Rattle.jl_nquads.specs.Nexts.{opened_by, allows, StopsBehindLabel}
 use Rattle.jl_nquads.specs.Spots.{Spot, begins, has_dot, leads_to, Breaks, BreaksInside, BreaksAtEnd}
-use Rattle.jl_nquads.specs.declared.code_points.Code.{Code}
 use Rattle.jl_nquads.specs.declared.halts.BadPlace.{BadPlace}
 use Rattle.jl_nquads.specs.declared.halts.LineHalt.{LineHalt}
 use Rattle.jl_nquads.specs.declared.halts.LineHalt.TheVariants.{Bad}
 use Rattle.jl_nquads.specs.declared.code_points.Class.TheVariants.{LabelLater}
 use Rattle.jl_nquads.specs.declared.labels.Run.{Run}
-use Rattle.jl_nquads.specs.declared.nexts.Next.TheVariants.{Dot, Other}
 use Rattle.jl_nquads.proofs.CodeFronts.{has_scalar}
 use Rattle.jl_nquads.proofs.Codes.{encode_some}
-use Rattle.jl_nquads.proofs.LabelBytes.{ClosesLabel, high_opens, first_low, first_high}
+use Rattle.jl_nquads.proofs.LabelBytes.{ClosesLabel, high_opens}
 use Rattle.jl_nquads.proofs.LabelStarts.{underscore_unfinished, underscore_broken, label_start_unfinished, label_start_broken}
 use Rattle.jl_nquads.proofs.LabelTokens.{LeadsLabel, is_dot, label_joins, label_unfinished, label_broken}
-use Rattle.jl_nquads.proofs.NextBytes.{begins_is, place_within}
+use Rattle.jl_nquads.proofs.NextBytes.{place_within}
 use Rattle.jl_nquads.proofs.NoLineEnds.{end_is}
 use Rattle.jl_nquads.proofs.SpotRows.{goes_on}
 use Rattle.jl_nquads.proofs.ReadSteps.{JoinsAll, token_before, bad_at_once}
-use Rattle.jl_nquads.proofs.SpotSteps.{Joins}
 use Rattle.jl_nquads.proofs.Stops.{other_stops}
 use Rattle.jl_nquads.proofs.Texts.{head_is, tail_is}
 use Rattle.jl_nquads.proofs.TokenBodies.{at_below, implied, high_alphanumeric}

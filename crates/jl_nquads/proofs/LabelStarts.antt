@@ -1,17 +1,16 @@
 -- A label that isn't whole.
-use Rattle.std.proofs.Common.{◌≡◌, ℕ, zero, suc, ◌+◌, ◌<◌, ◌≤◌, ◌⊎◌, inl, inr, Bool, true, false, List, [], ◌∷◌, ◌++◌, length, Option, Some, IsTrue, IsFalse, append-nil, append_assoc, refl, sym, ap, ◌∙◌, subst, arith, length-append}
-use Rattle.std.proofs.lemmas.Bool.{false≢true}
+use Rattle.std.proofs.Common.{◌≡◌, ℕ, List, [], ◌∷◌, ◌++◌, IsTrue, append-nil, append_assoc, refl, sym, ap, ◌∙◌, subst}
 use lib.Utf8.{encode, encodes}
 use Rattle.jl_model.specs.LineTokens.{LineToken, token_bytes, is_token, is_label, begins_label, is_line_end}
 use Rattle.jl_model.specs.LineTokens as tokens
 use Rattle.jl_nquads.specs.CodePoints.{HasCode, BeginsCode}
 use Rattle.jl_nquads.specs.Spots.{Spot, BreaksInside, BreaksAtEnd}
-use Rattle.jl_nquads.proofs.Codes.{Ends, no_further, code_turns, first_of_label, encode_some}
+use Rattle.jl_nquads.proofs.Codes.{no_further, code_turns, first_of_label}
 use Rattle.jl_nquads.proofs.LabelBytes.{label_first, one_label}
 use Rattle.jl_nquads.proofs.LabelTokens.{IsLabel, LeadsLabel, label_kind}
 use Rattle.jl_nquads.proofs.NoLineEnds.{is_inside}
 use Rattle.jl_nquads.proofs.Texts.{head_is, tail_is}
-use Rattle.jl_nquads.proofs.TokenBreaks.{Fronts, NoneIn, NoToken, none_in, breaks_within, token_unfinished}
+use Rattle.jl_nquads.proofs.TokenBreaks.{Fronts, NoneIn, NoToken, breaks_within, token_unfinished}
 
 module _ (s : Spot) (lead : LeadsLabel s) where
   inside : (t : LineToken) → IsLabel t → IsTrue (is_inside t)

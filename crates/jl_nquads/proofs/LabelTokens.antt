@@ -1,6 +1,6 @@
 -- Labels as tokens: one way of reading them, and where they break.
-use Rattle.std.proofs.Common.{◌≡◌, ℕ, zero, suc, ◌+◌, ◌<◌, ◌≤◌, ◌⊎◌, inl, inr, Bool, true, false, not, ◌&&◌, ◌==◌, List, [], ◌∷◌, ◌++◌, length, Option, Some, None, codes, IsTrue, IsFalse, append-nil, append_assoc, refl, sym, ap, ◌∙◌, subst, arith, lit<, length-append}
-use Rattle.std.proofs.lemmas.Bool.{and_parts, and_from, cases_Bool, cases_lt, false≢true, eqb-true, ne_eqb}
+use Rattle.std.proofs.Common.{◌≡◌, ℕ, suc, ◌+◌, ◌<◌, ◌≤◌, ◌⊎◌, inl, inr, Bool, false, not, ◌==◌, List, [], ◌∷◌, ◌++◌, length, Option, Some, IsTrue, IsFalse, append-nil, append_assoc, refl, sym, ap, ◌∙◌, subst, arith, lit<, length-append}
+use Rattle.std.proofs.lemmas.Bool.{and_parts, and_from, false≢true, eqb-true, ne_eqb}
 use Rattle.std.proofs.lemmas.List.Folds.{list_all-append}
 use Rattle.std.proofs.lemmas.Str.{encodes-append, encode_ascii}
 use Rattle.std.specs.List.{list_all}
@@ -12,17 +12,16 @@ use Rattle.jl_model.proofs.LineCuts.{opens, only_label, ascii_cut}
 use Rattle.jl_nquads.specs.CodePoints.{HasCode, BeginsCode}
 use Rattle.jl_nquads.specs.LinesRead.{closes_label}
 use Rattle.jl_nquads.specs.Nexts.{opened_by, opening, allows, StopsBehindLabel}
-use Rattle.jl_nquads.specs.declared.nexts.Next.{Next}
-use Rattle.jl_nquads.specs.declared.nexts.Next.TheVariants.{End, Blank, Iri, Label, Str, Carets, Tag, Dot, Comment, Other}
-use Rattle.jl_nquads.specs.Spots.{Spot, begins, has_subject, has_predicate, has_string, has_carets, has_object, has_graph, has_dot, has_comment, leads_to, goes, said, Left, StandsAt, Reaches, Breaks, BreaksInside, BreaksAtEnd}
-use Rattle.jl_nquads.proofs.Codes.{rows_of, Ends, no_further, none_at_end, none_before_end, code_turns, in_label, first_of_label, encode_some}
-use Rattle.jl_nquads.proofs.LabelBytes.{label_opens, no_dot_last, label_with, label_first, one_label, behind_dot, ClosesLabel, not_closed, first_low, first_high, high_opens}
-use Rattle.jl_nquads.proofs.NoLineEnds.{label_goes_on, is_inside}
-use Rattle.jl_nquads.proofs.SpotRows.{goes_on, goes_where, said_goes, row_from, head_is_token, head_ends, tail_is_row, has_byte}
+use Rattle.jl_nquads.specs.declared.nexts.Next.TheVariants.{Dot}
+use Rattle.jl_nquads.specs.Spots.{Spot, begins, has_subject, has_predicate, has_string, has_carets, has_object, has_graph, has_dot, has_comment, leads_to, goes, Left, StandsAt, Reaches, Breaks, BreaksInside, BreaksAtEnd}
+use Rattle.jl_nquads.proofs.Codes.{rows_of, Ends, no_further, none_at_end, none_before_end, code_turns, in_label, encode_some}
+use Rattle.jl_nquads.proofs.LabelBytes.{label_opens, label_with, behind_dot, ClosesLabel, not_closed}
+use Rattle.jl_nquads.proofs.NoLineEnds.{label_goes_on}
+use Rattle.jl_nquads.proofs.SpotRows.{goes_on, goes_where, said_goes, row_from, head_is_token, head_ends, tail_is_row}
 use Rattle.jl_nquads.proofs.SpotSteps.{Alone, Joins, whole_at_line_end}
-use Rattle.jl_nquads.proofs.Stops.{opening_byte, allowed, none_follows, other_stops}
-use Rattle.jl_nquads.proofs.Texts.{head_is, tail_is, fronts_of}
-use Rattle.jl_nquads.proofs.TokenBreaks.{Opens, Fronts, NoneIn, NoToken, none_in, breaks_within, token_unfinished}
+use Rattle.jl_nquads.proofs.Stops.{opening_byte, none_follows, other_stops}
+use Rattle.jl_nquads.proofs.Texts.{head_is, tail_is}
+use Rattle.jl_nquads.proofs.TokenBreaks.{Opens}
 
 abbrev pub IsLabel : LineToken → Type 0
 IsLabel t = (cs : List ℕ) × (t ≡ tokens.label cs)

@@ -1,5 +1,5 @@
 -- From line to line: what a reader of lines has read.
-use Rattle.std.proofs.Common.{◌≡◌, ℕ, zero, suc, ◌+◌, ◌-◌, ◌<◌, ◌≤◌, inl, inr, Bool, true, false, not, ◌||◌, ◌==◌, List, [], ◌∷◌, ◌++◌, length, take, drop, get_or, Option, Some, None, is_some, IsSome, Ok, Err, IsTrue, append-nil, append_assoc, refl, sym, ap, ◌∙◌, subst, arith, length-append}
+use Rattle.std.proofs.Common.{◌≡◌, ℕ, zero, suc, ◌+◌, ◌-◌, ◌<◌, ◌≤◌, inl, inr, Bool, true, false, not, List, [], ◌∷◌, ◌++◌, length, take, drop, get_or, Option, Some, None, is_some, IsSome, Ok, Err, IsTrue, append-nil, append_assoc, refl, sym, ap, ◌∙◌, subst, arith, length-append}
 use Rattle.std.proofs.lemmas.Bool.{and_from, cases_Bool, false≢true}
 use Rattle.std.proofs.lemmas.List.{take-append-drop, length-take-le, length-drop, take_more}
 use Rattle.std.proofs.lemmas.List.Folds.{list_all-append}
@@ -8,12 +8,12 @@ use Rattle.std.specs.List.{list_all}
 use Rattle.std.specs.Option.{option_to_list}
 use Rattle.memchr.specs.Find.{Nowhere, Passes, is_byte2}
 use Rattle.jl_model.specs.LineFaults.{BadLine}
-use Rattle.jl_model.specs.LineGrammar.{QuadsOf, BeginsLines}
+use Rattle.jl_model.specs.LineGrammar.{QuadsOf}
 use Rattle.jl_model.specs.LineTokens.{is_line_end}
 use Rattle.jl_model.specs.Parts.{Parts}
 use Rattle.jl_model.specs.declared.codes.Code.TheVariants as codes
 use Rattle.jl_model.specs.declared.faults.Fault.{Fault}
-use Rattle.jl_nquads.specs.EndedLines.{HasEnded, LinesEnded}
+use Rattle.jl_nquads.specs.EndedLines.{LinesEnded}
 use Rattle.jl_nquads.specs.LineReading.{HasRead, RefusesLine, RefusesEnd, RefusesIn, Steps, AnswersBytes, AnswersByte, AnswersEnd}
 use Rattle.jl_nquads.specs.LineSteps.{EndsWith, StopsWith, Takes, TakesLine, stop_for, end_place, end_stop_for}
 use Rattle.jl_nquads.specs.LinesRead.{ReadsFrom, IsBadFrom, BreaksBy}

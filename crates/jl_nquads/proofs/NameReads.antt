@@ -1,32 +1,29 @@
 -- Names as they are read.
-use Rattle.std.proofs.Common.{◌≡◌, ℕ, ◌+◌, ◌/◌, ◌%◌, ◌<◌, ◌≤◌, ◌⊎◌, inl, inr, Bool, true, false, not, ◌&&◌, ◌||◌, ◌==◌, nat_lt, nat_le, List, [], ◌∷◌, ◌++◌, length, map, flat_map, take, drop, Option, Some, None, is_some, unwrap_or, Result, Ok, Err, IsTrue, IsFalse, IsUtf8, codes, append-nil, refl, sym, ap, ◌∙◌, subst, arith}
-use Rattle.std.proofs.lemmas.Bool.{and_parts, and_from, or_left, or_right, cases_Bool, cases_lt, false≢true, lt-ltb, le-ltb, ltb-true, ltb-false}
+use Rattle.std.proofs.Common.{◌≡◌, ℕ, ◌+◌, ◌/◌, ◌%◌, ◌<◌, inl, inr, Bool, true, false, not, ◌&&◌, ◌||◌, ◌==◌, nat_lt, List, [], ◌∷◌, ◌++◌, map, flat_map, Some, Err, IsTrue, IsUtf8, codes, refl, sym, ap, ◌∙◌, subst, arith}
+use Rattle.std.proofs.lemmas.Bool.{and_parts, and_from, cases_Bool, cases_lt, lt-ltb, le-ltb, ltb-true}
 use Rattle.std.proofs.lemmas.List.Folds.{list_all-append}
 use Rattle.std.specs.List.{list_all}
 use lib.Utf8.{encode, encodes, scalar, scalars, next}
-use Rattle.jl_model.specs.Iris.{IsIri, has_iri_form}
-use Rattle.jl_model.specs.Labels.{is_word_byte, is_label_byte, last_byte, is_kept_label}
-use Rattle.jl_model.specs.Parts.{Parts, IsNode}
+use Rattle.jl_model.specs.Iris.{IsIri}
+use Rattle.jl_model.specs.Labels.{is_label_byte, last_byte, is_kept_label}
 use Rattle.jl_model.specs.Ren.{ren, begins_jl, hex_byte, hex_digit}
 use Rattle.jl_model.specs.LineTokens.{Written, itself, letter, four, eight, spelling, meaning, meant_byte, character, is_label, goes_on_label}
 use Rattle.jl_model.specs.LineTokens as tokens
-use Rattle.jl_model.specs.declared.terms.Term.{Term}
 use Rattle.jl_model.specs.declared.terms.Term.TheVariants.{Iri, Blank}
 use Rattle.jl_nquads.specs.CharactersRead.{letters_of, close_of, stands_in}
-use Rattle.jl_nquads.specs.LinesRead.{IsInLine, ReadsFrom, IsFramed, FramedRead, good_in, LeadsName, IsLabelRead, LabelRead, IsName, NameRead}
+use Rattle.jl_nquads.specs.LinesRead.{IsInLine, ReadsFrom, IsFramed, FramedRead, IsLabelRead, IsName, NameRead}
 use Rattle.jl_nquads.specs.Spots.{Spot, leads_to}
 use Rattle.jl_nquads.specs.declared.code_points.Class.TheVariants.{LabelLater}
 use Rattle.jl_nquads.specs.declared.framed.Frame.{Frame}
 use Rattle.jl_nquads.specs.declared.framed.Frame.TheVariants.{Angles, Quotes}
-use Rattle.jl_nquads.specs.declared.framed_tokens.FramedToken.{FramedToken}
 use Rattle.jl_nquads.specs.declared.halts.LineHalt.{LineHalt}
 use Rattle.jl_nquads.specs.declared.halts.LineHalt.TheVariants.{Bad, NoMemory}
 use Rattle.jl_nquads.proofs.CodeFronts.{has_scalar}
 use Rattle.jl_nquads.proofs.NoLineEnds.{label_goes_on}
 use Rattle.jl_nquads.proofs.EscapesAt.{uchar_parts}
-use Rattle.jl_nquads.proofs.FramedReads.{iri_continues, iri_bad, string_continues, string_bad}
+use Rattle.jl_nquads.proofs.FramedReads.{iri_continues, iri_bad, string_bad}
 use Rattle.jl_nquads.proofs.LabelReads.{label_continues}
-use Rattle.jl_nquads.proofs.TokenBodies.{all_below, at_below, scalar_below}
+use Rattle.jl_nquads.proofs.TokenBodies.{at_below, scalar_below}
 use Rattle.jl_nquads.proofs.UnframedGoes.{letter_scalar_of}
 
 -- ---- what characters mean is UTF-8

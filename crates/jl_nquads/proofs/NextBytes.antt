@@ -1,13 +1,12 @@
 -- The next byte of a line, and white space before it.
-use Rattle.std.proofs.Common.{◌≡◌, ℕ, zero, suc, ◌+◌, ◌-◌, ◌<◌, ◌≤◌, ◌⊎◌, inl, inr, Bool, true, false, not, cond, ◌&&◌, ◌||◌, ◌==◌, if◌then◌else◌, nat_lt, List, [], ◌∷◌, ◌++◌, length, take, drop, Option, Some, None, Result, Ok, Err, IsTrue, IsFalse, append-nil, append_assoc, refl, sym, ap, ◌∙◌, subst, arith, length-append}
-use Rattle.std.proofs.lemmas.Bool.{and_parts, and_from, cases_Bool, eqb-true, false≢true, cond-true, cond-false, ltb-false}
+use Rattle.std.proofs.Common.{◌≡◌, ℕ, zero, suc, ◌+◌, ◌≤◌, inl, inr, Bool, true, false, not, cond, ◌||◌, ◌==◌, if◌then◌else◌, nat_lt, List, [], ◌∷◌, length, drop, Option, Some, None, Result, Ok, Err, IsFalse, refl, sym, ap, ◌∙◌, subst, arith}
+use Rattle.std.proofs.lemmas.Bool.{and_parts, cases_Bool, eqb-true, false≢true, cond-true, cond-false, ltb-false}
 use Rattle.std.specs.List.{list_all, position, position_or_len}
 use Rattle.std.specs.Option.{option_to_list}
 use Rattle.jl_model.specs.Parts.{Parts}
-use Rattle.jl_model.specs.LineTokens as tokens
-use Rattle.jl_nquads.specs.LinesRead.{IsInLine, ReadsFrom, Continues, halt_at, is_blank, is_no_blank, LeadsBlank, BlanksSkipped, begins_with}
+use Rattle.jl_nquads.specs.LinesRead.{IsInLine, ReadsFrom, halt_at, is_blank, is_no_blank, LeadsBlank, BlanksSkipped, begins_with}
 use Rattle.jl_nquads.specs.Nexts.{next_of, opened_by, allows}
-use Rattle.jl_nquads.specs.Spots.{Spot, begins, has_subject, has_predicate, has_string, has_carets, has_object, has_graph, has_dot, leads_to, says_at, not_end, Left}
+use Rattle.jl_nquads.specs.Spots.{Spot, begins, has_subject, has_predicate, has_carets, has_object, has_graph, has_dot, says_at, not_end}
 use Rattle.jl_nquads.specs.declared.halts.LineHalt.{LineHalt}
 use Rattle.jl_nquads.specs.declared.nexts.Next.{Next}
 use Rattle.jl_nquads.specs.declared.nexts.Next.TheVariants.{End, Blank, Iri, Label, Str, Carets, Tag, Dot, Comment, Other}

@@ -1,16 +1,13 @@
 -- No token but a line end has the byte of one, and each token ends before it.
-use Rattle.std.proofs.Common.{◌≡◌, ℕ, zero, suc, ◌+◌, ◌/◌, ◌%◌, ◌<◌, ◌≤◌, ◌⊎◌, inl, inr, Bool, true, false, not, ◌&&◌, ◌||◌, ◌==◌, nat_lt, nat_le, List, [], ◌∷◌, ◌++◌, length, map, flat_map, Option, Some, None, is_some, codes, IsTrue, IsFalse, append-nil, append_assoc, refl, sym, ap, ◌∙◌, subst, arith}
-use Rattle.std.proofs.lemmas.Bool.{cases_Bool, cases_lt, cases_eq, and_parts, and_from, or_cases, or_left, or_right, false≢true, eqb-true, eq-eqb, ne_eqb, lt-ltb, le-ltb, ltb-true}
+use Rattle.std.proofs.Common.{◌≡◌, ℕ, ◌+◌, ◌/◌, ◌<◌, ◌≤◌, inl, inr, Bool, true, false, not, ◌&&◌, ◌||◌, ◌==◌, List, [], ◌∷◌, ◌++◌, length, flat_map, is_some, codes, IsTrue, refl, sym, ap, ◌∙◌, subst, arith}
+use Rattle.std.proofs.lemmas.Bool.{cases_lt, and_parts, and_from, or_cases, or_left, false≢true, eqb-true, ne_eqb, lt-ltb, le-ltb}
 use Rattle.std.proofs.lemmas.List.Folds.{list_all-append}
-use Rattle.std.proofs.lemmas.Str.{encode_ascii}
 use Rattle.std.specs.List.{list_all}
 use lib.Utf8.{encode, encodes, scalar, next}
 use Rattle.jl_model.specs.Iris.{is_iri_byte}
-use Rattle.jl_model.specs.Tags.{is_language_tag}
 use Rattle.jl_model.specs.Labels.{last_byte}
 use Rattle.jl_model.specs.LineTokens.{Written, itself, letter, four, eight, spelling, meaning, meant_byte, letter_value, is_uchar, is_hex_digit, hex_number, is_iri_character, is_string_character, is_label, begins_label, goes_on_label, base_ranges, further_ranges, is_in, is_comment_character, is_line_end, begins_tag, LineToken, token_bytes, is_token, ends_before, bytes_of, is_row}
 use Rattle.jl_model.specs.LineTokens as tokens
-use Rattle.jl_model.specs.LineGrammar.{blank_tokens}
 use Rattle.jl_model.specs.JsonStrings.{hex_value}
 use Rattle.jl_nquads.specs.Spots.{not_end}
 use Rattle.jl_nquads.proofs.Deciding.{hex_below}

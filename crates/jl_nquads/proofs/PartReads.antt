@@ -3,7 +3,7 @@ use Rattle.std.proofs.Common.{◌≡◌, ℕ, ◌+◌, ◌-◌, ◌≤◌, ◌�
 use Rattle.std.proofs.lemmas.Bool.{false≢true}
 use Rattle.std.proofs.lemmas.List.{drop-drop, length-drop}
 use Rattle.jl_model.specs.Iris.{IsIri}
-use Rattle.jl_model.specs.Parts.{Parts, IsNode, IsLanguage, IsObject, AreWellFormed, parts_of, rdf_lang_string, xsd_string}
+use Rattle.jl_model.specs.Parts.{Parts, IsLanguage, IsObject, AreWellFormed, parts_of, rdf_lang_string, xsd_string}
 use Rattle.jl_model.specs.LineTokens.{meaning}
 use Rattle.jl_model.specs.declared.terms.Term.{Term}
 use Rattle.jl_nquads.specs.LinesRead.{IsInLine, ReadsFrom, halt_at, begins_with, BlanksSkipped, IsFramed, FramedRead, IsName, NameRead, IsTagRead, CommentRead, has_carets}

@@ -1,8 +1,8 @@
 -- Characters that mean themselves, as far as they go.
-use Rattle.std.proofs.Common.{◌≡◌, ℕ, zero, suc, ◌+◌, ◌-◌, ◌<◌, ◌≤◌, ◌⊎◌, inl, inr, Bool, true, false, not, ◌&&◌, ◌||◌, ◌==◌, cond, List, [], ◌∷◌, ◌++◌, length, take, drop, get_or, IsTrue, IsFalse, IsUtf8, refl, sym, ap, ◌∙◌, subst, arith, length-append, append-nil, append_assoc}
+use Rattle.std.proofs.Common.{◌≡◌, ℕ, zero, suc, ◌+◌, ◌-◌, ◌<◌, ◌≤◌, inl, inr, true, ◌==◌, cond, List, [], ◌∷◌, ◌++◌, length, take, drop, get_or, IsTrue, IsFalse, IsUtf8, refl, sym, ap, ◌∙◌, subst, arith, length-append, append-nil, append_assoc}
 use Rattle.std.proofs.lemmas.Bool.{cases_Bool, cases_lt, cases_eq, and_from, or_cases, false≢true, eqb-true}
-use Rattle.std.proofs.lemmas.List.{take-append-drop, length-take-le, length-drop, take_at, get_or-drop, drop_all}
-use Rattle.std.proofs.lemmas.Str.{IsUtf8-nil, IsUtf8-append, IsUtf8-encode, IsUtf8-from_is_utf8, is_utf8-from_IsUtf8, inside_one, utf8_valid_len_le}
+use Rattle.std.proofs.lemmas.List.{take-append-drop, length-take-le, take_at, get_or-drop}
+use Rattle.std.proofs.lemmas.Str.{IsUtf8-nil, IsUtf8-append, IsUtf8-from_is_utf8, is_utf8-from_IsUtf8, inside_one, utf8_valid_len_le}
 use Rattle.std.specs.Str.{is_utf8}
 use Rattle.std.specs.Str.Lossy.{utf8_valid_len, valid_len_up_to}
 use lib.Utf8.{encode, scalar}

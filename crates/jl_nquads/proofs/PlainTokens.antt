@@ -1,19 +1,19 @@
 -- Tokens without characters of their own, and tags: one way of reading them, and where they break.
-use Rattle.std.proofs.Common.{◌≡◌, ℕ, zero, suc, ◌+◌, ◌<◌, ◌≤◌, ◌⊎◌, inl, inr, Bool, true, false, not, ◌&&◌, ◌||◌, ◌==◌, List, [], ◌∷◌, ◌++◌, length, Option, Some, None, codes, IsTrue, IsFalse, append-nil, append_assoc, refl, sym, ap, ◌∙◌, subst, arith, lit<}
-use Rattle.std.proofs.lemmas.Bool.{and_parts, and_from, or_cases, cases_Bool, false≢true, eqb-true}
+use Rattle.std.proofs.Common.{◌≡◌, ℕ, ◌<◌, inl, inr, true, false, not, ◌||◌, ◌==◌, List, [], ◌∷◌, ◌++◌, length, Some, codes, IsTrue, IsFalse, append-nil, append_assoc, refl, sym, ap, ◌∙◌, subst, arith, lit<}
+use Rattle.std.proofs.lemmas.Bool.{or_cases, false≢true, eqb-true}
 use Rattle.std.proofs.lemmas.List.{append_cancel_left}
 use Rattle.jl_model.specs.Parts.{Parts}
 use Rattle.jl_model.specs.Tags.{is_language_tag}
 use Rattle.jl_model.specs.LineTokens.{LineToken, token_bytes, is_token, ends_before, is_row, bytes_of, is_line_end, begins_tag}
 use Rattle.jl_model.specs.LineTokens as tokens
 use Rattle.jl_model.proofs.LineCuts.{opens, only_carets, only_tag, only_dot}
-use Rattle.jl_nquads.specs.Spots.{Spot, leads_to, goes, said, Breaks, BreaksInside, BreaksAtEnd}
+use Rattle.jl_nquads.specs.Spots.{Spot, leads_to, said, Breaks, BreaksInside, BreaksAtEnd}
 use Rattle.jl_nquads.proofs.NoLineEnds.{end_is, is_inside}
-use Rattle.jl_nquads.proofs.SpotRows.{head_is_token, head_ends, ends_same}
+use Rattle.jl_nquads.proofs.SpotRows.{head_is_token, head_ends}
 use Rattle.jl_nquads.proofs.SpotSteps.{Alone, Joins, whole_at_line_end}
 use Rattle.jl_nquads.proofs.TagBytes.{tag_ends, tag_goes, ends_go, front_goes, goes_tag, is_tag_byte, other_ends}
 use Rattle.jl_nquads.proofs.Texts.{head_is, tail_is, fronts_of}
-use Rattle.jl_nquads.proofs.TokenBreaks.{Opens, Fronts, NoneIn, NoToken, none_in, breaks_within, none_left, token_unfinished}
+use Rattle.jl_nquads.proofs.TokenBreaks.{Opens, Fronts, NoneIn, NoToken, breaks_within, token_unfinished}
 
 -- ---- white space, `^^` and the dot
 

@@ -1,12 +1,12 @@
 -- What is read of a line behind a token, and before it.
-use Rattle.std.proofs.Common.{◌≡◌, ℕ, zero, suc, ◌+◌, ◌-◌, ◌<◌, ◌≤◌, ◌⊎◌, inl, inr, Bool, true, false, not, ◌&&◌, ◌||◌, ◌==◌, List, [], ◌∷◌, ◌++◌, length, take, drop, Option, Some, None, Result, Ok, Err, IsTrue, IsFalse, append-nil, append_assoc, refl, sym, ap, ◌∙◌, subst, arith, length-append}
+use Rattle.std.proofs.Common.{◌≡◌, ℕ, ◌+◌, ◌-◌, Bool, true, false, ◌||◌, ◌==◌, List, [], ◌∷◌, ◌++◌, length, Option, Some, None, Result, Ok, Err, IsTrue, IsFalse, refl, subst, arith, length-append}
 use Rattle.std.specs.Option.{option_to_list}
 use Rattle.jl_model.specs.Parts.{Parts}
 use Rattle.jl_model.specs.LineTokens.{LineToken, token_bytes, is_token, ends_before, is_line_end}
 use Rattle.jl_model.specs.LineTokens as tokens
-use Rattle.jl_nquads.specs.LinesRead.{BreaksBy, IsBadFrom, ReadsFrom, Continues, halt_at}
-use Rattle.jl_nquads.specs.Nexts.{next_of, opened_by, allows}
-use Rattle.jl_nquads.specs.Spots.{Spot, leads_to, says_at, Left, Breaks, BreaksInside, BreaksAtEnd}
+use Rattle.jl_nquads.specs.LinesRead.{BreaksBy, ReadsFrom, halt_at}
+use Rattle.jl_nquads.specs.Nexts.{next_of, allows}
+use Rattle.jl_nquads.specs.Spots.{Spot, leads_to, says_at, Breaks}
 use Rattle.jl_nquads.specs.declared.halts.BadPlace.{BadPlace}
 use Rattle.jl_nquads.specs.declared.halts.LineHalt.{LineHalt}
 use Rattle.jl_nquads.specs.declared.halts.LineHalt.TheVariants.{Bad, NoMemory}

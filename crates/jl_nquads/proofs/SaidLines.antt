@@ -1,5 +1,5 @@
 -- The rows of tokens that say something from the beginning of a line are the lines of the grammar.
-use Rattle.std.proofs.Common.{◌≡◌, ℕ, Bool, true, false, List, [], ◌∷◌, ◌++◌, map, Option, Some, None, IsTrue, append-nil, append_assoc, refl, sym, ap, ◌∙◌, subst}
+use Rattle.std.proofs.Common.{◌≡◌, ℕ, List, [], ◌∷◌, ◌++◌, Option, Some, None, append_assoc, refl, sym, ap, ◌∙◌}
 use lib.Utf8.{encodes}
 use Rattle.jl_model.specs.Parts.{Parts, parts_of, rdf_lang_string, xsd_string}
 use Rattle.jl_model.specs.Ren.{ren}
@@ -9,7 +9,7 @@ use Rattle.jl_model.specs.LineGrammar.{Name, Object, named, literal, Suffix, pla
 use Rattle.jl_model.specs.LineGrammar as grammar
 use Rattle.jl_model.specs.declared.terms.Term.{Term}
 use Rattle.jl_model.specs.declared.terms.Term.TheVariants.{Iri, Blank, Literal}
-use Rattle.jl_nquads.specs.Spots.{Spot, begins, has_subject, has_predicate, has_string, has_carets, has_object, has_graph, has_dot, has_comment, leads_to, goes, said, says_at, literal_of}
+use Rattle.jl_nquads.specs.Spots.{Spot, begins, has_subject, has_predicate, has_string, has_carets, has_object, has_graph, has_dot, has_comment, leads_to, said, literal_of}
 use Rattle.jl_nquads.proofs.SpotRows.{said_where}
 
 -- ---- a line of the grammar says what its statement says

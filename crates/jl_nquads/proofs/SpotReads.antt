@@ -1,33 +1,32 @@
 -- What is read from each spot on.
-use Rattle.std.proofs.Common.{◌≡◌, ℕ, zero, suc, ◌+◌, ◌-◌, ◌<◌, ◌≤◌, ◌⊎◌, inl, inr, Bool, true, false, not, ◌&&◌, ◌||◌, ◌==◌, List, [], ◌∷◌, ◌++◌, length, drop, Option, Some, None, Result, Ok, Err, IsTrue, IsFalse, IsUtf8, append_assoc, refl, sym, ap, ◌∙◌, subst, arith}
+use Rattle.std.proofs.Common.{◌≡◌, ℕ, ◌-◌, Bool, true, false, ◌==◌, List, [], ◌∷◌, ◌++◌, length, drop, Option, Some, None, Result, Ok, Err, IsTrue, IsUtf8, append_assoc, refl, sym, ap, ◌∙◌, subst, arith}
 use Rattle.std.proofs.lemmas.Bool.{false≢true, eq-eqb, eqb-true, ne_eqb}
 use Rattle.std.specs.Option.{option_to_list}
 use lib.Utf8.{encode}
 use Rattle.jl_model.specs.Iris.{IsIri}
-use Rattle.jl_model.specs.Parts.{Parts, parts_of, IsNode, IsLit, IsLanguage, IsObject, IsGraph, AreWellFormed, rdf_lang_string, xsd_string}
+use Rattle.jl_model.specs.Parts.{Parts, parts_of, IsNode, IsObject, rdf_lang_string, xsd_string}
 use Rattle.jl_model.specs.Tags.{is_language_tag}
 use Rattle.jl_model.specs.LineTokens.{Written, LineToken, token_bytes, is_token, ends_before, is_row, bytes_of, meaning, is_line_end}
 use Rattle.jl_model.specs.LineTokens as tokens
-use Rattle.jl_model.specs.declared.terms.Lit.{Lit}
 use Rattle.jl_model.specs.declared.terms.Term.{Term}
 use Rattle.jl_model.specs.declared.terms.Term.TheVariants.{Iri, Blank, Literal}
-use Rattle.jl_nquads.specs.LinesRead.{IsInLine, BreaksBy, IsBadFrom, ReadsFrom, begins_with, LeadsBlank, BlanksSkipped, IsFramed, FramedRead, LeadsName, IsName, NameRead, IsTagRead, TagRead, CommentRead, has_carets}
-use Rattle.jl_nquads.specs.Nexts.{next_of, opened_by, allows}
-use Rattle.jl_nquads.specs.Spots.{Spot, begins, has_subject, has_predicate, has_string, has_carets as carets_at, has_object, has_graph, has_dot, has_comment, literal_of, leads_to, goes, said, says_at, Left, Begins, StandsAt, Reaches, Breaks, BreaksInside, BreaksAtEnd}
+use Rattle.jl_nquads.specs.LinesRead.{IsInLine, BreaksBy, ReadsFrom, begins_with, LeadsBlank, BlanksSkipped, IsFramed, LeadsName, IsName, has_carets}
+use Rattle.jl_nquads.specs.Nexts.{next_of, opened_by}
+use Rattle.jl_nquads.specs.Spots.{Spot, begins, has_subject, has_predicate, has_string, has_object, has_graph, has_dot, literal_of, leads_to, goes, said, Left, Breaks, BreaksInside, BreaksAtEnd}
 use Rattle.jl_nquads.specs.declared.framed.Frame.TheVariants.{Angles, Quotes}
 use Rattle.jl_nquads.specs.declared.halts.BadPlace.{BadPlace}
 use Rattle.jl_nquads.specs.declared.halts.LineHalt.{LineHalt}
 use Rattle.jl_nquads.specs.declared.halts.LineHalt.TheVariants.{Bad, NoMemory}
 use Rattle.jl_nquads.specs.declared.nexts.Next.{Next}
-use Rattle.jl_nquads.specs.declared.nexts.Next.TheVariants.{End, Carets, Tag, Other}
+use Rattle.jl_nquads.specs.declared.nexts.Next.TheVariants.{Carets, Tag}
 use Rattle.jl_nquads.proofs.FramedReads.{iri_continues, string_continues}
-use Rattle.jl_nquads.proofs.NameReads.{iri_halts, string_halts, is_iri}
+use Rattle.jl_nquads.proofs.NameReads.{is_iri}
 use Rattle.jl_nquads.proofs.NextBytes.{begins_is, in_line_drop}
 use Rattle.jl_nquads.proofs.PlainTokens.{carets_unfinished, carets_broken}
 use Rattle.jl_nquads.proofs.ReadSteps.{dot_before, carets_before, bad_at_once}
 use Rattle.jl_nquads.proofs.NoLineEnds.{end_is}
 use Rattle.jl_nquads.proofs.SpotRows.{goes_on, goes_where, said_on, said_where, head_is_token, has_byte}
-use Rattle.jl_nquads.proofs.Stops.{opening_byte, end_stops, other_stops}
+use Rattle.jl_nquads.proofs.Stops.{opening_byte}
 
 -- ---- names
 

@@ -1,10 +1,10 @@
 -- Rows of tokens that follow a spot.
-use Rattle.std.proofs.Common.{◌≡◌, ℕ, suc, ◌+◌, ◌<◌, ◌≤◌, ◌⊎◌, inl, inr, Bool, true, false, not, ◌&&◌, ◌||◌, ◌==◌, List, [], ◌∷◌, ◌++◌, length, Option, Some, None, IsTrue, IsFalse, append-nil, append_assoc, refl, sym, ap, ◌∙◌, subst, arith, length-append}
-use Rattle.std.proofs.lemmas.Bool.{and_parts, and_from, or_cases, false≢true, eqb-true, cases_Bool}
+use Rattle.std.proofs.Common.{◌≡◌, ℕ, Bool, true, false, ◌&&◌, List, [], ◌∷◌, ◌++◌, Option, Some, None, IsTrue, append_assoc, refl, sym, ap, ◌∙◌, subst}
+use Rattle.std.proofs.lemmas.Bool.{and_parts, and_from, false≢true}
 use Rattle.jl_model.specs.Parts.{Parts}
 use Rattle.jl_model.specs.LineTokens.{LineToken, token_bytes, is_token, ends_before, is_row, bytes_of, is_line_end, begins_tag}
 use Rattle.jl_model.specs.LineTokens as tokens
-use Rattle.jl_nquads.specs.Spots.{Spot, leads_to, goes, said, says_at}
+use Rattle.jl_nquads.specs.Spots.{Spot, leads_to, goes, said}
 
 pub both : {a b : Bool} → IsTrue a → IsTrue b → IsTrue (a && b)
 both {a} {b} h k = and_from a b h k

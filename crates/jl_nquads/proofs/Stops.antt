@@ -1,16 +1,15 @@
 -- Where no token may follow.
-use Rattle.std.proofs.Common.{◌≡◌, ℕ, zero, suc, ◌+◌, ◌<◌, ◌≤◌, ◌⊎◌, inl, inr, Bool, true, false, not, ◌&&◌, ◌||◌, ◌==◌, if◌then◌else◌, cond, List, [], ◌∷◌, ◌++◌, length, Option, Some, None, codes, IsTrue, IsFalse, append-nil, append_assoc, refl, sym, ap, ◌∙◌, subst, arith, length-append}
-use Rattle.std.proofs.lemmas.Bool.{and_parts, or_cases, false≢true, eqb-true}
+use Rattle.std.proofs.Common.{◌≡◌, ℕ, inl, inr, false, ◌==◌, List, [], ◌∷◌, ◌++◌, length, Some, None, IsTrue, IsFalse, append_assoc, refl, sym, ap, ◌∙◌, arith}
+use Rattle.std.proofs.lemmas.Bool.{or_cases, false≢true, eqb-true}
 use Rattle.jl_model.specs.Parts.{Parts}
 use Rattle.jl_model.specs.LineTokens.{LineToken, token_bytes, is_token, ends_before, is_row, bytes_of, is_line_end, is_label}
 use Rattle.jl_model.specs.LineTokens as tokens
-use Rattle.jl_nquads.specs.Nexts.{opened_by, next_of, opening, allows}
+use Rattle.jl_nquads.specs.Nexts.{opened_by, opening, allows}
 use Rattle.jl_nquads.specs.declared.nexts.Next.{Next}
-use Rattle.jl_nquads.specs.declared.nexts.Next.TheVariants.{End, Blank, Iri, Label, Str, Carets, Tag, Dot, Comment, Other}
-use Rattle.jl_nquads.specs.Spots.{Spot, begins, has_subject, has_predicate, has_string, has_carets, has_object, has_graph, has_dot, has_comment, leads_to, goes, said, says_at, Left, Begins, StandsAt, Reaches, Breaks, BreaksInside, BreaksAtEnd}
+use Rattle.jl_nquads.specs.declared.nexts.Next.TheVariants.{Iri, Label, Str, Carets, Tag, Dot, Comment, Other}
+use Rattle.jl_nquads.specs.Spots.{Spot, begins, has_subject, has_predicate, has_string, has_carets, has_object, has_graph, has_dot, has_comment, leads_to, goes, said, says_at, Breaks, BreaksInside, BreaksAtEnd}
 use Rattle.jl_nquads.proofs.NoLineEnds.{end_is}
-use Rattle.jl_nquads.proofs.SpotRows.{head_is_token, goes_where, said_where}
-use Rattle.jl_nquads.proofs.Texts.{head_is}
+use Rattle.jl_nquads.proofs.SpotRows.{head_is_token, goes_where}
 
 -- the first byte of a token opens it
 opened : (b c : ℕ) (n : Next) → c ≡ b → opened_by b ≡ n → opened_by c ≡ n

@@ -1,16 +1,14 @@
 -- Language tags as they are read.
-use Rattle.std.proofs.Common.{◌≡◌, ℕ, zero, suc, ◌+◌, ◌-◌, ◌<◌, ◌≤◌, ◌⊎◌, inl, inr, Bool, true, false, not, cond, ◌&&◌, ◌||◌, ◌==◌, if◌then◌else◌, List, [], ◌∷◌, ◌++◌, length, take, drop, get_or, Option, Some, None, Result, Ok, Err, IsTrue, IsFalse, append-nil, append_assoc, refl, sym, ap, ◌∙◌, subst, arith, length-append}
+use Rattle.std.proofs.Common.{◌≡◌, ℕ, zero, suc, ◌+◌, ◌<◌, ◌≤◌, Bool, true, false, not, cond, ◌&&◌, ◌==◌, if◌then◌else◌, List, [], ◌∷◌, ◌++◌, length, take, drop, get_or, Option, Some, None, Err, IsTrue, IsFalse, append-nil, append_assoc, refl, sym, ap, ◌∙◌, subst, arith}
 use Rattle.std.proofs.Math.Seq.{drop-cons}
-use Rattle.std.proofs.lemmas.Bool.{and_parts, cases_Bool, cases_eq, false≢true, eq-eqb, eqb-true, ne_eqb}
-use Rattle.std.proofs.lemmas.List.{take-append-drop, take_at, drop_at, drop_all, length-take-le, length-drop}
-use Rattle.jl_model.specs.Parts.{Parts}
+use Rattle.std.proofs.lemmas.Bool.{eq-eqb, ne_eqb}
+use Rattle.std.proofs.lemmas.List.{take-append-drop, drop_all, length-drop}
 use Rattle.jl_model.specs.Tags.{is_dash, is_language_tag}
 use Rattle.jl_model.specs.LineTokens.{begins_tag, is_line_end, token_bytes, is_token, ends_before}
 use Rattle.jl_model.specs.LineTokens as tokens
 use Rattle.jl_nquads.specs.LinesRead.{BreaksBy, ReadsFrom, begins_with, in_part, tag_after, LeadsTag, IsTagFront, IsTagRead}
 use Rattle.jl_nquads.specs.Spots.{Spot, leads_to, BreaksAtEnd, BreaksInside}
 use Rattle.jl_nquads.specs.declared.halts.BadPlace.{BadPlace}
-use Rattle.jl_nquads.specs.declared.halts.LineHalt.{LineHalt}
 use Rattle.jl_nquads.specs.declared.halts.LineHalt.TheVariants.{Bad}
 use Rattle.jl_nquads.specs.declared.tags.Part.{Part}
 use Rattle.jl_nquads.proofs.NextBytes.{begins_is}

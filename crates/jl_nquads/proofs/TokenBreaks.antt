@@ -1,14 +1,14 @@
 -- Where a text breaks within a token.
-use Rattle.std.proofs.Common.{◌≡◌, ℕ, zero, suc, ◌+◌, ◌<◌, ◌≤◌, ◌⊎◌, inl, inr, Bool, true, false, not, ◌&&◌, List, [], ◌∷◌, ◌++◌, length, Option, Some, None, IsTrue, IsFalse, append-nil, append_assoc, refl, sym, ap, ◌∙◌, subst, arith, length-append}
-use Rattle.std.proofs.lemmas.Bool.{and_parts, and_from, false≢true}
+use Rattle.std.proofs.Common.{◌≡◌, ℕ, inl, inr, not, List, [], ◌∷◌, ◌++◌, Some, IsTrue, append-nil, append_assoc, refl, sym, ap, ◌∙◌, subst, arith}
+use Rattle.std.proofs.lemmas.Bool.{and_parts, false≢true}
 use Rattle.std.proofs.lemmas.List.Folds.{list_all-append}
 use Rattle.std.specs.List.{list_all}
 use Rattle.jl_model.specs.Parts.{Parts}
 use Rattle.jl_model.specs.LineTokens.{LineToken, token_bytes, is_token, ends_before, is_row, bytes_of, is_line_end}
-use Rattle.jl_nquads.specs.Spots.{Spot, leads_to, goes, said, Left, Begins, StandsAt, Reaches, Breaks, BreaksInside, BreaksAtEnd, not_end}
-use Rattle.jl_nquads.proofs.NoLineEnds.{is_inside, token_no_end, end_is}
-use Rattle.jl_nquads.proofs.SpotRows.{goes_on, row_from, ends_at_end, head_is_token, head_ends, tail_is_row, goes_where, said_where}
-use Rattle.jl_nquads.proofs.Texts.{head_is, tail_is, fronts_of, turns}
+use Rattle.jl_nquads.specs.Spots.{Spot, leads_to, said, Left, Reaches, Breaks, BreaksInside, BreaksAtEnd, not_end}
+use Rattle.jl_nquads.proofs.NoLineEnds.{is_inside, token_no_end}
+use Rattle.jl_nquads.proofs.SpotRows.{goes_on, row_from, ends_at_end, head_is_token, head_ends, goes_where, said_where}
+use Rattle.jl_nquads.proofs.Texts.{head_is, fronts_of, turns}
 
 -- at this spot the tokens that may follow and begin with this byte are those of a kind
 pub record Opens (s : Spot) (b : ℕ) (K : LineToken → Type 0) : Type 0 where

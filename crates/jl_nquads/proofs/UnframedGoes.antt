@@ -1,6 +1,6 @@
 -- Whether characters that are cut short may go on, as code tells it.
-use Rattle.std.proofs.Common.{◌≡◌, ℕ, zero, suc, ◌+◌, ◌-◌, ◌*◌, ◌/◌, ◌<◌, ◌≤◌, ◌⊎◌, inl, inr, ◌↔◌, Bool, true, false, not, cond, ◌&&◌, ◌||◌, ◌==◌, if◌then◌else◌, nat_lt, nat_le, min, List, [], ◌∷◌, ◌++◌, length, drop, get_or, Option, Some, None, is_some, unwrap_or, IsTrue, IsFalse, append-nil, append_assoc, refl, sym, ap, ◌∙◌, subst, arith, length-append}
-use Rattle.std.proofs.lemmas.Bool.{and_parts, and_from, or_cases, or_left, or_right, cases_Bool, cases_lt, cases_eq, false≢true, eq-eqb, eqb-true, ne_eqb, cond-true, cond-false, le-leb, leb-true, le-ltb, ltb-false}
+use Rattle.std.proofs.Common.{◌≡◌, ℕ, zero, suc, ◌+◌, ◌-◌, ◌*◌, ◌<◌, ◌≤◌, inl, inr, Bool, true, false, not, ◌&&◌, ◌||◌, ◌==◌, if◌then◌else◌, nat_lt, nat_le, min, List, [], ◌∷◌, ◌++◌, length, drop, get_or, Option, Some, None, is_some, unwrap_or, IsTrue, IsFalse, append-nil, refl, sym, ap, ◌∙◌, subst, arith, length-append}
+use Rattle.std.proofs.lemmas.Bool.{and_parts, and_from, cases_Bool, cases_lt, cases_eq, false≢true, eq-eqb, eqb-true, ne_eqb, le-leb, le-ltb, ltb-false}
 use Rattle.std.proofs.Math.Seq.{drop-cons}
 use Rattle.std.proofs.lemmas.List.Folds.{list_all-append}
 use Rattle.std.proofs.lemmas.Str.{encode_ascii}
@@ -18,14 +18,13 @@ use Rattle.jl_nquads.specs.LinesRead.{fine_in, NoneStands, NotClosed}
 use Rattle.jl_nquads.specs.Unframed.{after, goes_by, is_class_of, ClassBehind, codes_end, codes_with, no_codes, codes_by, codes_of_digits, codes_of_escapes, first_with, HasSome, BeginsWritten, BeginsBy}
 use Rattle.jl_nquads.specs.declared.code_points.Class.{Class}
 use Rattle.jl_nquads.specs.declared.code_points.Class.TheVariants.{Any, LabelFirst, LabelLater, Comment, Letter, Scheme, Later}
-use Rattle.jl_nquads.specs.declared.code_points.Codes.{Codes}
 use Rattle.jl_nquads.specs.declared.framed.Frame.{Frame}
 use Rattle.jl_nquads.specs.declared.framed.Frame.TheVariants.{Angles, Quotes}
 use Rattle.jl_nquads.proofs.CodeFronts.{has_scalar}
 use Rattle.jl_nquads.proofs.Codes.{encode_some}
 use Rattle.jl_nquads.proofs.EscapesAt.{uchar_parts}
 use Rattle.jl_nquads.proofs.HexNumbers.{over, among_over, over_among, over_digits, digits_over, hex_joined}
-use Rattle.jl_nquads.proofs.LabelBytes.{first_high, first_low}
+use Rattle.jl_nquads.proofs.LabelBytes.{first_high}
 use Rattle.jl_nquads.proofs.NoLineEnds.{encode_all}
 use Rattle.jl_nquads.proofs.Texts.{head_is, tail_is}
 use Rattle.jl_nquads.proofs.TokenBodies.{at_below, letter_low, high_alphabetic, high_scheme, high_iri, scalar_below}

@@ -1,5 +1,5 @@
 -- Characters of a class at the front of bytes. Only private clauses cite this.
-use Rattle.std.specs.Prelude.{◌≡◌, ℕ, ◌<◌, ◌≤◌, Bool, ◌&&◌, ◌||◌, List, ◌∷◌, ◌++◌, length, drop, Option, Some, None, IsTrue}
+use Rattle.std.specs.Prelude.{◌≡◌, ℕ, ◌<◌, ◌≤◌, Bool, ◌&&◌, ◌||◌, List, ◌++◌, length, drop, Option, Some, None, IsTrue}
 use Rattle.std.specs.Char.{is_ascii_alphabetic}
 use lib.Utf8.{encode, scalar}
 use Rattle.jl_model.specs.Iris.{is_colon, is_scheme_byte, is_iri_byte}

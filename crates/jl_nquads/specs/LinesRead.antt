@@ -4,7 +4,7 @@ use Rattle.std.specs.Char.{is_ascii_alphabetic, is_ascii_alphanumeric}
 use Rattle.std.specs.List.{list_all}
 use Rattle.std.specs.Option.{option_to_list}
 use lib.Utf8.{encodes}
-use Rattle.jl_model.specs.Iris.{IsIri, has_iri_form}
+use Rattle.jl_model.specs.Iris.{has_iri_form}
 use Rattle.jl_model.specs.Parts.{Parts, IsNode, xsd_string}
 use Rattle.jl_model.specs.Ren.{ren}
 use Rattle.jl_model.specs.Tags.{is_dash, is_language_tag}

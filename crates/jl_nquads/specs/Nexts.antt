@@ -3,7 +3,7 @@ use Rattle.std.specs.Prelude.{◌≡◌, ℕ, ◌⊎◌, Bool, true, false, ◌|
 use Rattle.jl_model.specs.Parts.{Parts}
 use Rattle.jl_model.specs.LineTokens.{LineToken}
 use Rattle.jl_model.specs.LineTokens as tokens
-use Rattle.jl_nquads.specs.Spots.{Spot, begins, has_subject, has_predicate, has_string, has_carets, has_object, has_graph, has_dot, has_comment, leads_to}
+use Rattle.jl_nquads.specs.Spots.{Spot, begins, has_subject, has_predicate, has_string, has_carets, has_object, has_graph, has_dot, leads_to}
 use Rattle.jl_nquads.specs.declared.nexts.Next.{Next}
 use Rattle.jl_nquads.specs.declared.nexts.Next.TheVariants.{End, Blank, Iri, Label, Str, Carets, Tag, Dot, Comment, Other}
 

@@ -1,11 +1,10 @@
 -- Where in a line tokens stand, and what the line says in the end. Only private clauses cite this.
-use Rattle.std.specs.Prelude.{◌≡◌, ℕ, ◌+◌, ◌≤◌, Bool, true, false, not, List, [], ◌∷◌, ◌++◌, length, Option, Some, None, IsTrue}
+use Rattle.std.specs.Prelude.{◌≡◌, ℕ, ◌≤◌, Bool, true, false, not, List, [], ◌∷◌, ◌++◌, length, Option, Some, None, IsTrue}
 use lib.Utf8.{encodes}
 use Rattle.jl_model.specs.Parts.{Parts, parts_of, rdf_lang_string, xsd_string}
 use Rattle.jl_model.specs.Ren.{ren}
 use Rattle.jl_model.specs.LineTokens.{meaning, LineToken, bytes_of, is_row, is_line_end}
 use Rattle.jl_model.specs.LineTokens as tokens
-use Rattle.jl_model.specs.declared.terms.Lit.{Lit}
 use Rattle.jl_model.specs.declared.terms.Term.{Term}
 use Rattle.jl_model.specs.declared.terms.Term.TheVariants.{Iri, Blank, Literal}
 

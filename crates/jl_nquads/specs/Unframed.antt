@@ -1,8 +1,8 @@
 -- Characters that are cut short. Only private clauses cite this.
-use Rattle.std.specs.Prelude.{◌≡◌, ℕ, zero, suc, ◌+◌, ◌-◌, ◌*◌, ◌<◌, ◌≤◌, Bool, true, false, ◌&&◌, ◌||◌, ◌==◌, nat_lt, min, List, [], ◌∷◌, ◌++◌, length, Option, Some, None, if◌then◌else◌, IsTrue, IsFalse}
+use Rattle.std.specs.Prelude.{◌≡◌, ℕ, zero, suc, ◌+◌, ◌-◌, ◌*◌, Bool, true, false, ◌==◌, nat_lt, min, List, [], ◌∷◌, ◌++◌, length, Option, Some, None, if◌then◌else◌, IsTrue, IsFalse}
 use Rattle.std.specs.Char.{is_ascii_alphabetic}
 use Rattle.std.specs.List.{list_all}
-use lib.Utf8.{encode, scalar}
+use lib.Utf8.{scalar}
 use Rattle.jl_model.specs.Iris.{is_colon, is_scheme_byte, is_iri_byte}
 use Rattle.jl_nquads.specs.CodePoints.{has, BeginsCode, IsAmong}
 use Rattle.jl_nquads.specs.EscapesRead.{code_value}

@@ -1,4 +1,4 @@
-use Rattle.std.proofs.Common.{sym, ap, ◌∙◌}
+use Rattle.std.proofs.Common.{ap, ◌∙◌}
 use lib.Utf8.{encode}
 use Rattle.jl_nquads.proofs.CodeFronts.{front_told}
 use Rattle.jl_nquads.proofs.code_points.begins_encoded.Goals as goal

@@ -1,4 +1,4 @@
-use Rattle.std.proofs.Common.{sym, ap, ◌∙◌, subst, length, take, ◌≡◌}
+use Rattle.std.proofs.Common.{sym, ap, ◌∙◌, subst, length, take}
 use Rattle.jl_nquads.proofs.CodeFronts.{code_first, no_code}
 use Rattle.jl_nquads.proofs.PlainFronts.{valid_is_utf8}
 use Rattle.std.specs.Str.{IsUtf8}

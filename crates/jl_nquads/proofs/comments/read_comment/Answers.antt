@@ -1,4 +1,4 @@
-use Rattle.std.proofs.Common.{arith, rules, length, ◌<◌, refl}
+use Rattle.std.proofs.Common.{rules, length, ◌<◌, refl}
 use Rattle.std.proofs.lemmas.List.{nil_from_length}
 use Rattle.jl_nquads.proofs.CommentFronts.{comment_front, comment_whole, comment_bad}
 use Rattle.jl_nquads.proofs.comments.read_comment.Goals as goal

@@ -1,7 +1,7 @@
-use Rattle.std.proofs.Common.{◌≡◌, ℕ, ◌+◌, ◌++◌, Bool, List, Option, Some, None, drop, take, IsTrue, sym, length, ◌<◌, ◌≤◌, ap, ◌∙◌, subst, arith}
-use lib.Utf8.{encode, scalar}
+use Rattle.std.proofs.Common.{◌≡◌, ℕ, ◌+◌, ◌++◌, Bool, List, Option, Some, None, drop, take, sym, length, ◌<◌, ◌≤◌, ap, ◌∙◌, subst, arith}
+use lib.Utf8.{encode}
 use Rattle.jl_nquads.specs.CharactersRead.{close_of, letters_of, IsPlainFront}
-use Rattle.jl_nquads.specs.EscapesRead.{EscapeAt, StandsFirst, escape_first}
+use Rattle.jl_nquads.specs.EscapesRead.{EscapeAt, escape_first}
 use Rattle.jl_nquads.specs.declared.escaped.Escape.{Escape}
 use Rattle.jl_nquads.specs.declared.framed.Frame.{Frame}
 use Rattle.jl_nquads.proofs.CharacterRuns.{HaveRead, plain_more, escape_more, escape_scalar, all_read, read_within, escape_some}

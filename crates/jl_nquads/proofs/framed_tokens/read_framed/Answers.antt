@@ -1,8 +1,8 @@
-use Rattle.std.proofs.Common.{sym, ◌∙◌, subst, IsTrue, length, refl}
+use Rattle.std.proofs.Common.{sym, ◌∙◌, subst, IsTrue}
 use Rattle.std.proofs.lemmas.Bool.{and_parts}
 use Rattle.jl_nquads.specs.CharactersRead.{close_of}
 use Rattle.jl_nquads.specs.LinesRead.{begins_with, good_in}
-use Rattle.jl_nquads.proofs.FramedReads.{token_ends, token_unframed, none_stands, isnt_closed}
+use Rattle.jl_nquads.proofs.FramedReads.{token_ends}
 use Rattle.jl_nquads.proofs.framed_tokens.read_framed.Goals as goal
 
 pub returns-then-ends : goal.returns-then-ends

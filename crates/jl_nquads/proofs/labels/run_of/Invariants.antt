@@ -1,4 +1,4 @@
-use Rattle.std.proofs.Common.{◌≡◌, ◌-◌, length}
+use Rattle.std.proofs.Common.{◌-◌, length}
 use Rattle.jl_nquads.specs.LinesRead.{HasRun}
 use Rattle.jl_nquads.proofs.labels.run_of.Given as goal
 

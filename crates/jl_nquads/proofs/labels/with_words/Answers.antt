@@ -1,4 +1,4 @@
-use Rattle.std.proofs.Common.{◌≡◌, ◌+◌, ◌<◌, ◌≤◌, length, arith, subst, sym}
+use Rattle.std.proofs.Common.{◌+◌, ◌<◌, ◌≤◌, length, arith, subst, sym}
 use Rattle.std.specs.List.{position_or_len}
 use Rattle.jl_nquads.specs.LinesRead.{HasRun, is_no_word}
 use Rattle.jl_nquads.proofs.LabelReads.{run_within, run_words, words_within}

@@ -1,4 +1,4 @@
-use Rattle.std.proofs.Common.{◌∙◌, Err, refl, sym, subst}
+use Rattle.std.proofs.Common.{◌∙◌, Err, refl, subst}
 use Rattle.std.proofs.lemmas.Result.{err_from_is_err_and}
 use Rattle.jl_nquads.specs.LinesRead.{ReadsFrom}
 use Rattle.jl_nquads.specs.Nexts.{next_of}

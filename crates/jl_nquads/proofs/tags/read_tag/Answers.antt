@@ -1,4 +1,4 @@
-use Rattle.std.proofs.Common.{sym, ◌∙◌, ap, refl, subst, IsTrue, take}
+use Rattle.std.proofs.Common.{sym, ◌∙◌, ap, refl, take}
 use Rattle.jl_model.specs.Tags.{is_language_tag}
 use Rattle.jl_nquads.proofs.TagReads.{tag_is_read, tag_bad}
 use Rattle.jl_nquads.proofs.tags.read_tag.Goals as goal

@@ -1,4 +1,4 @@
-use Rattle.std.proofs.Common.{◌≡◌, ℕ, ◌<◌, ◌≤◌, IsTrue}
+use Rattle.std.proofs.Common.{ℕ, ◌<◌, ◌≤◌, IsTrue}
 use lib.Utf8.{scalar}
 use Rattle.jl_nquads.specs.CodePoints.{has}
 use Rattle.jl_nquads.proofs.unframed.has_some.Given as goal

@@ -1,4 +1,3 @@
-use Rattle.std.proofs.Common.{sym}
 use Rattle.std.proofs.lemmas.Bool.{false≢true}
 use Rattle.jl_nquads.proofs.UnframedGoes.{written_goes, goes_written, nothing_goes}
 use Rattle.jl_nquads.proofs.unframed.may_go_on.Goals as goal

@@ -1,6 +1,6 @@
-use Rattle.std.proofs.Common.{Ok, Err, subst, sym, ◌∙◌}
+use Rattle.std.proofs.Common.{Err, subst, sym, ◌∙◌}
 use Rattle.jl_nquads.specs.LineSteps.{Takes, TakesLine}
-use Rattle.jl_nquads.proofs.LineReaders.{none_taken, taken_more, steps_to, steps_through, stops_in, no_quad}
+use Rattle.jl_nquads.proofs.LineReaders.{taken_more, steps_to, stops_in, no_quad}
 use Rattle.jl_nquads.proofs.readers.LineReader.read_lines.Goals as goal
 
 pub returns-in-Err-clause-answer : goal.returns-in-Err-clause-answer

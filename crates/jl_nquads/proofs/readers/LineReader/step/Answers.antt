@@ -1,4 +1,3 @@
-use Rattle.std.proofs.Common.{[], ◌∷◌}
 use Rattle.jl_nquads.proofs.LineReaders.{one_byte, one_stops}
 use Rattle.jl_nquads.proofs.readers.LineReader.step.Goals as goal
 
