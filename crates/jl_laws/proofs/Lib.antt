@@ -25,3 +25,5 @@ pub mod OpenParts
 pub mod OpenGoesOn
 mod FaultsStayInBytes
 mod ReportRows
+pub mod ContextCodes
+pub mod FaultCodes

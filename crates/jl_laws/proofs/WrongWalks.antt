@@ -9,6 +9,7 @@ use Rattle.jl_model.specs.JsonTree.{Tree, scalar, object, Members, no_member, me
 use Rattle.jl_model.specs.Codes.{code_number}
 use Rattle.jl_model.specs.Lines.{line, term_text}
 use Rattle.jl_model.specs.Parts.{Parts}
+use Rattle.jl_model.specs.declared.codes.Code.TheVariants.{NotYet}
 use Rattle.jl_model.specs.declared.faults.Fault.{Fault}
 use Rattle.jl_model.specs.declared.orders.Order.TheVariants.{Any, Streaming}
 use Rattle.jl_model.specs.declared.scalars.Scalar.TheVariants.{Bool as truth, Str}
@@ -17,10 +18,11 @@ use Rattle.jl_defs.specs.Settings.{Settings}
 use Rattle.jl_defs.specs.Sets.{Has, IsWithin}
 use Rattle.jl_defs.specs.Dataset.{dataset}
 use Rattle.jl_defs.specs.Faults.{faults}
+use Rattle.jl_defs.specs.ObjectContexts.{fault}
 use Rattle.jl_defs.specs.OpenTree.{Open, in_object, Extends}
 use Rattle.jl_laws.specs.Spots.{Spot}
 use Rattle.jl_defs.proofs.RowWords.{settings, is_fault_among, faults_are_among, says as defined}
-use Rattle.jl_laws.specs.Laws.{SaysDatasetBy, MembersMoveBy, FaultsStayBy}
+use Rattle.jl_laws.specs.Laws.{SaysDatasetBy, MembersMoveBy, FaultsStayBy, FaultsAreBuiltBy}
 use Rattle.jl_laws.specs.Says.{walk, says, root_spot}
 use Rattle.jl_laws.specs.Reordering.{Reordered}
 
@@ -142,3 +144,9 @@ unfolding defined walk hurried started rest streaming_order Extends
 hurried_is_wrong h =
     no_faults_part (faults streaming_order (object 0 started)) (faults streaming_order (object 0 (then_members started rest)))
     (h streaming_order (in_object 0 started []) (object 0 (then_members started rest)) refl (rest, refl)) refl
+
+-- ---- wrong faults of a document
+
+-- a form that isn't built told among them
+form_told : FaultsAreBuiltBy (λ s t. fault NotYet 0 ∷ faults s t) → ⊥
+form_told law = law streaming_order nested (fault NotYet 0) (inl refl) refl

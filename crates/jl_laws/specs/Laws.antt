@@ -2,6 +2,7 @@
 use Rattle.std.specs.Prelude.{ℕ, ◌≡◌, List, ◌++◌}
 use Rattle.jl_model.specs.JsonTree.{Tree, object, Members}
 use Rattle.jl_model.specs.Parts.{Parts}
+use Rattle.jl_model.specs.declared.codes.Code.TheVariants.{NotYet}
 use Rattle.jl_model.specs.declared.faults.Fault.{Fault}
 use Rattle.jl_model.specs.declared.orders.Order.TheVariants.{Streaming}
 use Rattle.jl_defs.specs.Settings.{Settings}
@@ -46,3 +47,10 @@ MembersMoveBy walk =
 
 abbrev pub MembersMove : Type 0
 MembersMove = MembersMoveBy says
+
+-- no fault of a document is a form that isn't built
+abbrev pub FaultsAreBuiltBy : (Settings → Tree → List Fault) → Type 0
+FaultsAreBuiltBy tells = (s : Settings) (t : Tree) (f : Fault) → Has (tells s t) f → f.code ≡ NotYet → ⊥
+
+abbrev pub FaultsAreBuilt : Type 0
+FaultsAreBuilt = FaultsAreBuiltBy faults

@@ -1,7 +1,7 @@
 //! Laws of the definitions of reading JSON-LD.
 #![tactic(auto)]
 
-ghost use Rattle.jl_laws.specs.Laws.{FaultsStay, FaultsStayInBytes, MembersMove, SaysDataset};
+ghost use Rattle.jl_laws.specs.Laws.{FaultsAreBuilt, FaultsStay, FaultsStayInBytes, MembersMove, SaysDataset};
 
 /// A fault that is reported for what has been read of a document is a fault of every document that goes on from it, in
 /// streaming order.
@@ -25,4 +25,9 @@ pub fn law_frames()
 /// object, in streaming order for those that can't go back to a context before and aren't read as graphs.
 pub fn law_members()
     ensures { MembersMove }
+{}
+
+/// No fault of a document has the code of a form that isn't built, whatever its contexts and the order.
+pub fn law_codes()
+    ensures { FaultsAreBuilt }
 {}
