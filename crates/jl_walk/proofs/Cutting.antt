@@ -104,4 +104,4 @@ mutual
       let later = cut-members s e rest in
       let cm = cut-member s a n v rest (cut-tree s e v) later.0 in
       let la = leading-member s a n v rest cm later.1 later.2 in
-      (cm, running-member s a n v rest cm later.1, la, opens-member s a n v rest e later.2 la)
+      (cm, running-member s a n v rest cm later.1, la, opens-member s a n v rest e la)

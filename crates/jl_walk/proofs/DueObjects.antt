@@ -10,7 +10,7 @@ use Rattle.jl_defs.specs.Context.{TermDef, Context, term}
 use Rattle.jl_defs.specs.Process.{Library}
 use Rattle.jl_defs.specs.Settings.{Settings, Under, elsewhere}
 use Rattle.jl_defs.specs.Keys.{Key, its_context, id, kind, value, language, direction, index, other, dropped as dropped_key, property, key_of, is_value}
-use Rattle.jl_defs.specs.ObjectContexts.{fault, Inside, decide}
+use Rattle.jl_defs.specs.ObjectContexts.{fault, Inside, Own, first_context, decide}
 use Rattle.jl_defs.specs.MemberFaults.{key_faults}
 use Rattle.jl_model.specs.declared.codes.Code.TheVariants as code
 use Rattle.jl_defs.specs.ValueObjects.{first_with}
@@ -25,7 +25,7 @@ use Rattle.jl_defs.specs.Due.{value_due}
 use Rattle.jl_laws.specs.Spots.{Spot, stand_of}
 use Rattle.jl_laws.specs.Says.{members_say}
 use Rattle.jl_walk.specs.Phases.{Phase, follow, past, phase_faults, known, first_phase}
-use Rattle.jl_walk.specs.Stage.{is_built_key, members_forms}
+use Rattle.jl_walk.specs.Stage.{unless_own, is_built_key, members_forms}
 use Rattle.jl_walk.specs.Frames.{Object, Frame, object as object_frame, spot_in}
 use Rattle.jl_walk.specs.Steps.{quiet, unless_fault, if_built}
 use Rattle.jl_walk.specs.Opening.{scope_of, Entering, fresh, enter_at}
@@ -115,11 +115,12 @@ due-so f base library p b i ms opened_keys plain hung built o =
 
 -- ---- an object enters, and its closed members are fed
 
-enters-bring : (p : Spot) (b : ℕ) (ph : Phase) (r : Result Inside Fault) (full : Members) (k : List Frame) (g : List Frame → Go) (quads : Inside → List Parts) →
+enters-bring : (p : Spot) (b : ℕ) (own : Option Own) (ph : Phase) (r : Result Inside Fault) (full : Members) (k : List Frame) (g : List Frame → Go) (quads : Inside → List Parts) →
     ((i : Inside) → r ≡ Ok i → Brings (g (object_frame p i (fresh p b (entering_as ph i (known i ph full))) ∷ k)) (quads i)) →
-    Brings (from (enter_at p b (entering ph r full) k) g) (due.decided_due r quads)
-enters-bring p b ph (Err x) full k g quads h = brings-none (from (enter_at p b (entering ph (Err x) full) k) g)
-enters-bring p b ph (Ok i) full k g quads h = by (e.valued && e.json)
+    Brings (from (enter_at p b (unless_own own (entering ph r full)) k) g) (due.decided_due r quads)
+enters-bring p b (Some own) ph r full k g quads h = brings-never (fault code.NotYet own.at) (due.decided_due r quads)
+enters-bring p b None ph (Err x) full k g quads h = brings-none (from (enter_at p b (entering ph (Err x) full) k) g)
+enters-bring p b None ph (Ok i) full k g quads h = by (e.valued && e.json)
   where
     e : Entering
     e = entering_as ph i (known i ph full)
@@ -233,7 +234,7 @@ object-brings base library b ms f k p h plain hung =
     by false e = brings-none _
     by true e =
         brings-same _ _ _ (enters-so base library p b (f ∷ k) ms e)
-        (enters-bring p b ph (decide s p.context p.under (stand_of p.role.around) b ms) ms (f ∷ k) (λ m. from (feed_members s ms m) ends) quads
+        (enters-bring p b (first_context ms) ph (decide s p.context p.under (stand_of p.role.around) b ms) ms (f ∷ k) (λ m. from (feed_members s ms m) ends) quads
         (λ i d. inner i (due.has_key is_value i.final ms) refl))
 
 -- ---- an object whose member is open
@@ -341,5 +342,5 @@ member-brings base library b ms ends a n next begins ih f k p h plain hung =
     by false e = brings-none _
     by true e =
         brings-same _ _ _ (open-enters s ms p b (f ∷ k) a n next (open_events next) refl e begins ∙ from-then (enter_at p b (decided s b full p) (f ∷ k)) (feed_members s ms) goes-on)
-        (enters-bring p b ph (decide s p.context p.under (stand_of p.role.around) b full) full (f ∷ k) (λ m. from (feed_members s ms m) goes-on) quads
+        (enters-bring p b (first_context full) ph (decide s p.context p.under (stand_of p.role.around) b full) full (f ∷ k) (λ m. from (feed_members s ms m) goes-on) quads
         (λ i d. inner i (key-known base library ms p b a n next i e d) (due.has_key is_value i.final ms || is_value (key_of i.final n)) refl))

@@ -44,7 +44,7 @@ first-members no_member rest more = refl
 first-members (member a n v ms) rest more = ap (λ es. a_key a n ∷ tree_events v es) (first-members ms rest more)
 
 -- the events of what has been read are the first of the tree's
-abbrev AreFirst : Open → Tree → Type 0
+abbrev pub AreFirst : Open → Tree → Type 0
 AreFirst o t = (more : List Event) → (left : List Event) × (tree_events t more ≡ open_events o ++ left)
 
 next-first : (next : Open) (rest : Trees) → NextItem next (Extends next) rest → ((x : Tree) → Extends next x → AreFirst next x) → (more : List Event) →
@@ -61,7 +61,7 @@ members-first b ms rest = λ more. (
   ap (λ es. opens_object b ∷ es) (first-members ms rest (closes ∷ more) ∙ members-then ms [] (members_events rest (closes ∷ more))),
 )
 
-open-first : (o : Open) (t : Tree) → Extends o t → AreFirst o t
+pub open-first : (o : Open) (t : Tree) → Extends o t → AreFirst o t
 unfolding Extends tree_events
 open-first unread t x = λ more. (tree_events t more, refl)
 open-first (in_scalar b first) t x = λ more. (tree_events t more, refl)

@@ -2,13 +2,14 @@
 use Rattle.std.proofs.Common.{ℕ, ◌≡◌, refl, sym, ◌∙◌, ap, Bool, true, false, List, [], ◌∷◌, ◌++◌, Ok, Err}
 use Rattle.std.specs.Prelude.{Result, suc, ◌&&◌, ◌||◌}
 use Rattle.jl_model.specs.JsonTree.{Tree, scalar, array, object, Trees, no_item, Members, no_member, member}
+use Rattle.jl_model.specs.declared.codes.Code.TheVariants as code
 use Rattle.jl_model.specs.declared.faults.Fault.{Fault}
 use Rattle.jl_defs.specs.Texts.{Text}
 use Rattle.jl_model.specs.declared.scalars.Scalar.{Scalar}
 use Rattle.jl_defs.specs.Context.{Context}
 use Rattle.jl_defs.specs.Trees.{then_members}
 use Rattle.jl_defs.specs.Settings.{Settings}
-use Rattle.jl_defs.specs.ObjectContexts.{Inside, Look, look_at, look_at_key, prelude_looks, is_in_prelude, is_context_name, first_context, decide_by}
+use Rattle.jl_defs.specs.ObjectContexts.{fault, Inside, Look, look_at, look_at_key, prelude_looks, is_in_prelude, is_context_name, first_context, decide_by}
 use Rattle.jl_defs.specs.Keys.{Key, kind, key_of, is_kind, is_leading}
 use Rattle.jl_defs.specs.Rest.{prelude_of}
 use Rattle.jl_laws.specs.Spots.{Spot, stand_of}
@@ -19,7 +20,7 @@ use Rattle.jl_walk.specs.Feeding.{entering_as}
 use Rattle.jl_walk.specs.Keys.{take_key}
 use Rattle.jl_walk.specs.Ending.{close}
 use Rattle.jl_walk.specs.Events.{Event, opens_object, opens_array, closes, tree_events, items_events, members_events}
-use Rattle.jl_walk.specs.States.{at, leading, leading_key, context_key, running_key, in_items, Go, then_go, from, settle, go, members_length, held_with}
+use Rattle.jl_walk.specs.States.{at, leading, leading_key, running_key, in_items, Go, then_go, from, settle, go, members_length, held_with}
 use Rattle.jl_walk.specs.Running.{contexts_of, may_lead, may_type, held_looks, contexts_by, settles, if_decided, run_key, ending_key, at_step, value_step, nothing_held, step, run}
 use Rattle.jl_walk.specs.Phases.{Phase, at_start, in_lead, follow, is_rest, known, prelude_length}
 use Rattle.jl_walk.proofs.Goes.{before-none, then-before}
@@ -245,7 +246,7 @@ pub leading-member : (s : Settings) (a : ℕ) (n : Text) (v : Tree) (rest : Memb
 unfolding run step tree_events
 leading-member s a n v rest cm rm lm p b first held k es nf =
     ap (λ x. then_go (elim x [
-      | true ↦ go (context_key (lead p b first held k) a n)
+      | true ↦ Err (fault code.NotYet a)
       | false ↦ elim (may_lead (contexts_of s p b first) n) [ true ↦ go (leading_key (lead p b first held k) a n) | false ↦ ending_key s (lead p b first held k) a n ]
     ]) (run s (tree_events v (members_events rest (closes ∷ es))))) nf
     ∙ leads-so s a n v rest cm rm lm p b first held k es (is_in_prelude (contexts_of s p b first) n v) (may_lead (contexts_of s p b first) n) refl refl

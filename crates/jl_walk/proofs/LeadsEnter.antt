@@ -1,14 +1,15 @@
 -- An object in its prelude enters at the key that begins its rest.
-use Rattle.std.proofs.Common.{ℕ, ◌≡◌, refl, sym, ◌∙◌, ap, Bool, true, false, ◌&&◌, List, [], ◌∷◌, Ok}
-use Rattle.std.specs.Prelude.{Result, suc, ◌≡◌, ℕ, Bool, true, false, ◌&&◌, List, [], ◌∷◌, Ok}
+use Rattle.std.proofs.Common.{ℕ, ◌≡◌, refl, sym, ◌∙◌, ap, Bool, true, false, ◌&&◌, List, [], ◌∷◌, Ok, Err}
+use Rattle.std.specs.Prelude.{Result, suc, ◌≡◌, ℕ, Bool, true, false, ◌&&◌, List, [], ◌∷◌, Ok, Err}
 use Rattle.jl_model.specs.JsonTree.{Tree, Members, no_member, member}
+use Rattle.jl_model.specs.declared.codes.Code.TheVariants as code
 use Rattle.jl_model.specs.declared.faults.Fault.{Fault}
 use Rattle.jl_model.specs.declared.orders.Order.TheVariants.{Streaming}
 use Rattle.jl_defs.specs.Texts.{Text}
 use Rattle.jl_defs.specs.Trees.{then_members}
 use Rattle.jl_defs.specs.Context.{Context}
 use Rattle.jl_defs.specs.Settings.{Settings}
-use Rattle.jl_defs.specs.ObjectContexts.{Inside, look_at, look_at_key, first_context, is_context_name, is_in_prelude, decide_by, Look}
+use Rattle.jl_defs.specs.ObjectContexts.{fault, Inside, look_at, look_at_key, first_context, is_context_name, is_in_prelude, decide_by, Look}
 use Rattle.jl_defs.specs.Rest.{prelude_of}
 use Rattle.jl_laws.specs.Spots.{Spot, stand_of}
 use Rattle.jl_walk.specs.Phases.{Phase, at_start, in_lead, known, prelude_length}
@@ -16,7 +17,7 @@ use Rattle.jl_walk.specs.Frames.{Frame}
 use Rattle.jl_walk.specs.Opening.{enter_at}
 use Rattle.jl_walk.specs.Feeding.{entering_as}
 use Rattle.jl_walk.specs.Events.{Event, a_key, tree_events, members_events}
-use Rattle.jl_walk.specs.States.{at, leading, leading_key, context_key, Go, then_go, from, go, members_length, held_with, Lead}
+use Rattle.jl_walk.specs.States.{at, leading, leading_key, Go, then_go, from, go, members_length, held_with, Lead}
 use Rattle.jl_walk.specs.Running.{contexts_of, may_lead, contexts_by, if_decided, run_key, ending_key, second_of, nothing_held, step, run}
 use Rattle.jl_walk.proofs.HeldMembers.{lead, second, then-same, held-more, held-none}
 use Rattle.jl_walk.proofs.HeldPreludes.{members-assoc, held-nothing, looks-more, leads-by}
@@ -98,7 +99,7 @@ leads-end s en p b first held k i a n es nf d h ke =
     let l = lead p b first held k in
     let hs = then_members first held in
     ap (λ x. then_go (elim x [
-      | true ↦ go (context_key l a n)
+      | true ↦ Err (fault code.NotYet a)
       | false ↦ elim (may_lead (contexts_of s p b first) n) [ true ↦ go (leading_key l a n) | false ↦ ending_key s l a n ]
     ]) (run s es)) nf
     ∙ (ke refl held
@@ -134,7 +135,7 @@ leads-member : (s : Settings) (c : ℕ) (m : Text) (w : Tree) (rest : Members) �
 unfolding run step tree_events
 leads-member s c m w rest en le p b first held k i a n es nf d h ke =
     ap (λ x. then_go (elim x [
-      | true ↦ go (context_key (lead p b first held k) c m)
+      | true ↦ Err (fault code.NotYet c)
       | false ↦ elim (may_lead (contexts_of s p b first) m) [ true ↦ go (leading_key (lead p b first held k) c m) | false ↦ ending_key s (lead p b first held k) c m ]
     ]) (run s (tree_events w (members_events rest (a_key a n ∷ es))))) nf
     ∙ by (is_in_prelude (contexts_of s p b first) m w) refl d h ke

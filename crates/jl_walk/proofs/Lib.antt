@@ -31,4 +31,6 @@ pub mod DueKeys
 pub mod DueObjects
 pub mod DueOpen
 pub mod DueSure
+pub mod Shapes
+pub mod Fitting
 mod Rows

@@ -1,13 +1,14 @@
 -- An object at its spot: it enters, its members run, it closes.
-use Rattle.std.proofs.Common.{ℕ, ◌≡◌, inl, inr, refl, sym, ◌∙◌, ap, Bool, true, false, not, ◌&&◌, ◌||◌, List, [], ◌∷◌, ◌++◌, Option, Some, is_some, Result, Ok, Err, ◌⊎◌}
+use Rattle.std.proofs.Common.{ℕ, ◌≡◌, inl, inr, refl, sym, ◌∙◌, ap, Bool, true, false, not, ◌&&◌, ◌||◌, List, [], ◌∷◌, ◌++◌, Option, Some, None, is_some, Result, Ok, Err, ◌⊎◌}
 use Rattle.jl_model.specs.JsonTree.{Tree, object, Members, no_member, member}
 use Rattle.jl_model.specs.Parts.{Parts}
+use Rattle.jl_model.specs.declared.codes.Code.TheVariants as code
 use Rattle.jl_model.specs.declared.faults.Fault.{Fault}
 use Rattle.jl_model.specs.declared.orders.Order.{Order}
 use Rattle.jl_model.specs.declared.orders.Order.TheVariants.{Any, Streaming}
 use Rattle.jl_defs.specs.Settings.{Settings, graph_property}
 use Rattle.jl_defs.specs.Keys.{key_of, is_id, is_value, is_kind, is_list, is_set, is_graph}
-use Rattle.jl_defs.specs.ObjectContexts.{Inside, decide}
+use Rattle.jl_defs.specs.ObjectContexts.{fault, Inside, Own, own_context, decide}
 use Rattle.jl_defs.specs.ValueObjects.{ValueType, first_with, all_with, is_json, is_json_type, type_of_values, value_type}
 use Rattle.jl_defs.specs.Items.{Naming}
 use Rattle.jl_defs.specs.Sets.{Has}
@@ -27,7 +28,7 @@ use Rattle.jl_walk.specs.Steps.{Step, quiet, after_quads, then_goes, if_built}
 use Rattle.jl_walk.specs.Opening.{scope_of, Entering, fresh, enter_at, object_under, enter}
 use Rattle.jl_walk.specs.Feeding.{entering_as, entering, decided, feed, feed_members}
 use Rattle.jl_walk.specs.Ending.{closing_of, is_kept, said_at_end, close}
-use Rattle.jl_walk.specs.Stage.{forms, decided_forms, is_json_object, json_form, members_forms}
+use Rattle.jl_walk.specs.Stage.{forms, context_form, unless_own, decided_forms, is_json_object, json_form, members_forms}
 use Rattle.jl_walk.specs.Laws.{IsCause, Runs, goes, stops, IsPlain, ValueRuns}
 use Rattle.jl_walk.specs.Phases.{phased, Phase, any_time, at_start, in_lead, in_run, in_rest, follow, past, is_rest, known, first_phase}
 use Rattle.jl_walk.proofs.Runs.{has-left, has-right, left-nil, right-nil, both-nil, runs-by, only-fault-runs}
@@ -289,16 +290,17 @@ phases-none s p i at ms mf gs plain b e =
     let two = no-late s.order s.base s.library p i at ms plain b none in
     both-nil (mf ++ (late ++ gs)) (late_contexts s.order ms) (both-nil mf (late ++ gs) (left-nil mf (phased i ph ms) l) (both-nil late gs two.0 (right-nil (mf ++ phased i ph ms) gs e))) two.1
 
-decided-runs : (s : Settings) (p : Spot) (r : Result Inside Fault) (at : ℕ) (ms : Members) (f : Frame) (k : List Frame) → ObjectCloses s → MembersRun s ms → IsPlain p →
+decided-runs : (s : Settings) (p : Spot) (own : Option Own) (r : Result Inside Fault) (at : ℕ) (ms : Members) (f : Frame) (k : List Frame) → ObjectCloses s → MembersRun s ms → IsPlain p →
     (let ph = first_phase s p.context p.under (stand_of p.role.around) at ms in
     Runs (decided_faults r (λ i. members_faults s i (place own_member p.under (stand_of p.role.around) (all_with is_kind i.final ms)) nothing_seen ms
     ++ (late_members s p.context p.under (stand_of p.role.around) at i ms ++ closing_faults p.under i at ms (entries s i own_member p.under ms))) ++ late_contexts s.order ms)
-    (decided_forms r (λ i. json_form (is_json_object i (known i ph ms)) at ++ members_forms s i ms))
-    (then_goes (enter_at p at (entering ph r ms) (f ∷ k)) (λ l. then_goes (feed_members s ms l) close))
+    (context_form own ++ decided_forms r (λ i. json_form (is_json_object i (known i ph ms)) at ++ members_forms s i ms))
+    (then_goes (enter_at p at (unless_own own (entering ph r ms)) (f ∷ k)) (λ l. then_goes (feed_members s ms l) close))
     (decided_says p.head r (λ i. said_as s p i at ms)).0
     (told (decided_keeps r (λ i. object_gives p.under i ms (entries s i own_member p.under ms))) (decided_says p.head r (λ i. said_as s p i at ms)).1 f ∷ k))
-decided-runs s p (Err x) at ms f k oc mr plain = stops x (inl (inl refl)) refl
-decided-runs s p (Ok i) at ms f k oc mr plain =
+decided-runs s p (Some own) r at ms f k oc mr plain = stops (fault code.NotYet own.at) (inr (refl, inl refl)) refl
+decided-runs s p None (Err x) at ms f k oc mr plain = stops x (inl (inl refl)) refl
+decided-runs s p None (Ok i) at ms f k oc mr plain =
     by (inside-runs s p ph i at ms f k (is_json_object i (known i ph ms)) oc mr plain refl)
   where
     ph : Phase
@@ -325,4 +327,4 @@ object-runs s at ms oc mr f k p e plain =
     runs-by _ _ _ _ _ _ _ _ _ _ refl refl
     (ap (λ x. then_goes x (λ l. then_goes (feed_members s ms l) close)) (object-at-spot at (decided s at ms) f k p e))
     refl refl
-    (decided-runs s p (decide s p.context p.under (stand_of p.role.around) at ms) at ms f k oc mr plain)
+    (decided-runs s p (own_context s.order ms) (decide s p.context p.under (stand_of p.role.around) at ms) at ms f k oc mr plain)

@@ -34,7 +34,7 @@ abbrev pub fault_of : Fault → Go → Fault
 fault_of f (Ok x) = f
 fault_of f (Err g) = g
 
-longer : (q : List Parts) (g : Go) (quads : List Parts) (z : State) → before q g ≡ Ok (quads, z) → quads ≡ q ++ quads_of g
+pub longer : (q : List Parts) (g : Go) (quads : List Parts) (z : State) → before q g ≡ Ok (quads, z) → quads ≡ q ++ quads_of g
 longer q (Ok (more, y)) quads z e = sym (ap quads_of e)
 longer q (Err f) quads z e = absurd cc
 

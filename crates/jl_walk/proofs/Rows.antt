@@ -1,5 +1,5 @@
 -- The machine computed for some documents, each of which stands above its row.
-use Rattle.std.specs.Prelude.{ℕ, Bool, true, false, ◌&&◌, ◌==◌, None, [], codes, refl, ◌∷◌, ◌≡◌, List, map, Ok, Err, bytes_eq}
+use Rattle.std.specs.Prelude.{ℕ, Bool, true, false, ◌&&◌, ◌==◌, None, [], codes, refl, ◌∷◌, ◌≡◌, List, map, Result, Ok, Err, bytes_eq}
 use Rattle.jl_model.specs.JsonTree.{Tree, array, item, member, no_item, no_member, object, scalar}
 use Rattle.jl_model.specs.Lines.{line}
 use Rattle.jl_model.specs.Codes.{code_number}
@@ -8,10 +8,17 @@ use Rattle.jl_model.specs.declared.codes.Code.TheVariants as code
 use Rattle.jl_model.specs.declared.orders.Order.{Order}
 use Rattle.jl_model.specs.declared.orders.Order.TheVariants.{Any, Streaming}
 use Rattle.jl_model.specs.declared.scalars.Scalar.TheVariants.{Null, Number, Str}
+use Rattle.jl_model.specs.declared.graph_scopes.GraphScope.TheVariants.{Main}
 use Rattle.jl_defs.specs.Texts.{Text}
+use Rattle.jl_defs.specs.Context.{Context, initial}
+use Rattle.jl_defs.specs.Process.{process}
+use Rattle.jl_defs.specs.Settings.{Settings, no_property}
 use Rattle.jl_defs.specs.OpenTree.{Open, in_array, in_object, in_member}
 use Rattle.jl_defs.proofs.RowWords.{settings}
 use Rattle.jl_laws.proofs.RowWords.{walked}
+use Rattle.jl_laws.specs.Spots.{Spot, spot, document, loose}
+use Rattle.jl_laws.specs.Says.{walk, root_spot, graph_head}
+use Rattle.jl_walk.specs.Frames.{values}
 use Rattle.jl_walk.specs.Steps.{Step}
 use Rattle.jl_walk.specs.Scalars.{take_scalar}
 use Rattle.jl_walk.specs.Opening.{open_array, enter}
@@ -78,6 +85,46 @@ unfoldable stops_in_both : Tree → Code → ℕ → Bool
 unfolding stops refuses
 stops_in_both t c place = stops Any t c place && refuses t c place
 
+-- ---- the same where terms are defined: a context of the object's own isn't built, so these rows begin inside one
+
+-- the spot of a document inside this context
+abbrev spot_within : Settings → Tree → Spot
+spot_within s t =
+    by (process s.library s.base t (record { active = initial s.base; url = s.base; chain = []; may_override = false; propagate = true; validate = true }))
+  where
+    by : Result Context Code → Spot
+    by (Ok c) = spot c no_property document loose (graph_head Main)
+    by (Err e) = root_spot s
+
+unfoldable fed_within : Order → Tree → Tree → Step
+unfolding fed
+fed_within order c t = feed (settings order None []) t (values (spot_within (settings order None []) c) ∷ [])
+
+unfoldable read_within : Tree → Tree → Go
+unfolding fed_within read tree_events
+read_within c t = run (settings Streaming None []) (tree_events t []) (at (values (spot_within (settings Streaming None []) c) ∷ []))
+
+unfoldable says_within : Order → Tree → Tree → List Text → Bool
+unfolding walk fed_within
+says_within order c t lines = same_texts (map line (walk (settings order None []) (spot_within (settings order None []) c) t).0) lines
+
+unfoldable brings_within : Tree → Tree → List Text → Bool
+unfolding fed_within read_within says_within
+brings_within c t lines =
+    gives_lines (fed_within Any c t) lines
+    && (gives_lines (fed_within Streaming c t) lines
+    && (puts_lines (read_within c t) lines && (says_within Any c t lines && says_within Streaming c t lines)))
+
+unfoldable refuses_within : Tree → Tree → Code → ℕ → Bool
+unfolding fed_within read_within
+refuses_within c t x place = stops_at (fed_within Streaming c t) x place && refuses_at (read_within c t) x place
+
+unfoldable stops_within : Tree → Tree → Code → ℕ → Bool
+unfolding refuses_within
+stops_within c t x place = stops_at (fed_within Any c t) x place && refuses_within c t x place
+
+-- ---- the rows
+
 -- {"@id":"http://a/s","http://a/p":"x"}: a node with a name and a value
 node_row : brings_in_both (object 0 (member 1 (codes "@id") (scalar 7 (Str (codes "http://a/s"))) (member 20 (codes "http://a/p") (scalar 33 (Str (codes "x"))) no_member))) (codes "<http://a/s> <http://a/p> \"x\" .\n" ∷ []) ≡ true
 unfolding brings_in_both
@@ -103,14 +150,14 @@ types_row : brings_in_both (object 0 (member 1 (codes "@type") (array 9 (item (s
 unfolding brings_in_both
 types_row = refl
 
--- {"@context":{"T":{"@id":"http://a/T","@context":{"i":"@id"}}},"@type":"T","i":"http://a/s","http://a/p":"x"}: the second run names the node, by a term of its type's context
-run_row : brings_in_both (object 0 (member 1 (codes "@context") (object 12 (member 13 (codes "T") (object 17 (member 18 (codes "@id") (scalar 24 (Str (codes "http://a/T"))) (member 37 (codes "@context") (object 48 (member 49 (codes "i") (scalar 53 (Str (codes "@id"))) no_member)) no_member))) no_member)) (member 62 (codes "@type") (scalar 70 (Str (codes "T"))) (member 74 (codes "i") (scalar 78 (Str (codes "http://a/s"))) (member 91 (codes "http://a/p") (scalar 104 (Str (codes "x"))) no_member))))) (codes "<http://a/s> <http://www.w3.org/1999/02/22-rdf-syntax-ns#type> <http://a/T> .\n" ∷ codes "<http://a/s> <http://a/p> \"x\" .\n" ∷ []) ≡ true
-unfolding brings_in_both
+-- within {"T":{"@id":"http://a/T","@context":{"i":"@id"}}}: {"@type":"T","i":"http://a/s","http://a/p":"x"}: the second run names the node, by a term of its type's context
+run_row : brings_within (object 0 (member 1 (codes "T") (object 5 (member 6 (codes "@id") (scalar 12 (Str (codes "http://a/T"))) (member 25 (codes "@context") (object 36 (member 37 (codes "i") (scalar 41 (Str (codes "@id"))) no_member)) no_member))) no_member)) (object 0 (member 1 (codes "@type") (scalar 9 (Str (codes "T"))) (member 13 (codes "i") (scalar 17 (Str (codes "http://a/s"))) (member 30 (codes "http://a/p") (scalar 43 (Str (codes "x"))) no_member)))) (codes "<http://a/s> <http://www.w3.org/1999/02/22-rdf-syntax-ns#type> <http://a/T> .\n" ∷ codes "<http://a/s> <http://a/p> \"x\" .\n" ∷ []) ≡ true
+unfolding brings_within
 run_row = refl
 
--- {"@context":{"g":{"@id":"http://a/g","@container":"@graph"}},"@id":"http://a/s","g":{"@id":"http://a/x","http://a/p":"1"}}: a node of a container with `@graph` is in a graph of its own
-graph_row : brings_in_both (object 0 (member 1 (codes "@context") (object 12 (member 13 (codes "g") (object 17 (member 18 (codes "@id") (scalar 24 (Str (codes "http://a/g"))) (member 37 (codes "@container") (scalar 50 (Str (codes "@graph"))) no_member))) no_member)) (member 61 (codes "@id") (scalar 67 (Str (codes "http://a/s"))) (member 80 (codes "g") (object 84 (member 85 (codes "@id") (scalar 91 (Str (codes "http://a/x"))) (member 104 (codes "http://a/p") (scalar 117 (Str (codes "1"))) no_member))) no_member)))) (codes "<http://a/x> <http://a/p> \"1\" _:jlg84 .\n" ∷ codes "<http://a/s> <http://a/g> _:jlg84 .\n" ∷ []) ≡ true
-unfolding brings_in_both
+-- within {"g":{"@id":"http://a/g","@container":"@graph"}}: {"@id":"http://a/s","g":{"@id":"http://a/x","http://a/p":"1"}}: a node of a container with `@graph` is in a graph of its own
+graph_row : brings_within (object 0 (member 1 (codes "g") (object 5 (member 6 (codes "@id") (scalar 12 (Str (codes "http://a/g"))) (member 25 (codes "@container") (scalar 38 (Str (codes "@graph"))) no_member))) no_member)) (object 0 (member 1 (codes "@id") (scalar 7 (Str (codes "http://a/s"))) (member 20 (codes "g") (object 24 (member 25 (codes "@id") (scalar 31 (Str (codes "http://a/x"))) (member 44 (codes "http://a/p") (scalar 57 (Str (codes "1"))) no_member))) no_member))) (codes "<http://a/x> <http://a/p> \"1\" _:jlg24 .\n" ∷ codes "<http://a/s> <http://a/g> _:jlg24 .\n" ∷ []) ≡ true
+unfolding brings_within
 graph_row = refl
 
 -- {"http://a/p":"x","@id":"http://a/s"}: in the order any the name may come last
@@ -128,15 +175,30 @@ late_context_row : refuses (object 0 (member 1 (codes "@id") (scalar 7 (Str (cod
 unfolding refuses
 late_context_row = refl
 
--- {"@context":{"T":{"@id":"http://a/T","@context":{"i":"@id"}}},"@type":"T","http://a/p":{"i":[]}}: a lone identifier whose value ends the prelude
-lone_row : refuses (object 0 (member 1 (codes "@context") (object 12 (member 13 (codes "T") (object 17 (member 18 (codes "@id") (scalar 24 (Str (codes "http://a/T"))) (member 37 (codes "@context") (object 48 (member 49 (codes "i") (scalar 53 (Str (codes "@id"))) no_member)) no_member))) no_member)) (member 62 (codes "@type") (scalar 70 (Str (codes "T"))) (member 74 (codes "http://a/p") (object 87 (member 88 (codes "i") (array 92 no_item) no_member)) no_member)))) code.LateIdentifier 88 ≡ true
-unfolding refuses
+-- within {"T":{"@id":"http://a/T","@context":{"i":"@id"}}}: {"@type":"T","http://a/p":{"i":[]}}: a lone identifier whose value ends the prelude
+lone_row : refuses_within (object 0 (member 1 (codes "T") (object 5 (member 6 (codes "@id") (scalar 12 (Str (codes "http://a/T"))) (member 25 (codes "@context") (object 36 (member 37 (codes "i") (scalar 41 (Str (codes "@id"))) no_member)) no_member))) no_member)) (object 0 (member 1 (codes "@type") (scalar 9 (Str (codes "T"))) (member 13 (codes "http://a/p") (object 26 (member 27 (codes "i") (array 31 no_item) no_member)) no_member))) code.LateIdentifier 27 ≡ true
+unfolding refuses_within
 lone_row = refl
 
--- {"@context":{"i":"@id"},"@id":"http://a/s","i":"http://a/t"}: two keys for `@id`
-collision_row : stops_in_both (object 0 (member 1 (codes "@context") (object 12 (member 13 (codes "i") (scalar 17 (Str (codes "@id"))) no_member)) (member 24 (codes "@id") (scalar 30 (Str (codes "http://a/s"))) (member 43 (codes "i") (scalar 47 (Str (codes "http://a/t"))) no_member)))) code.CollidingKeywords 43 ≡ true
-unfolding stops_in_both
+-- within {"i":"@id"}: {"@id":"http://a/s","i":"http://a/t"}: two keys for `@id`
+collision_row : stops_within (object 0 (member 1 (codes "i") (scalar 5 (Str (codes "@id"))) no_member)) (object 0 (member 1 (codes "@id") (scalar 7 (Str (codes "http://a/s"))) (member 20 (codes "i") (scalar 24 (Str (codes "http://a/t"))) no_member))) code.CollidingKeywords 20 ≡ true
+unfolding stops_within
 collision_row = refl
+
+-- {"@context":{},"http://a/p":"x"}: a context of its own isn't built
+context_row : stops_in_both (object 0 (member 1 (codes "@context") (object 12 no_member) (member 15 (codes "http://a/p") (scalar 28 (Str (codes "x"))) no_member))) code.NotYet 1 ≡ true
+unfolding stops_in_both
+context_row = refl
+
+-- {"http://a/p":"x","@context":{}}: in the order any it may come last
+context_last_row : stops Any (object 0 (member 1 (codes "http://a/p") (scalar 14 (Str (codes "x"))) (member 18 (codes "@context") (object 29 no_member) no_member))) code.NotYet 18 ≡ true
+unfolding stops
+context_last_row = refl
+
+-- {"x":{"@context":{}},"http://a/p":"y"}: one in a value that is dropped stops nothing
+context_dropped_row : brings_in_both (object 0 (member 1 (codes "x") (object 5 (member 6 (codes "@context") (object 17 no_member) no_member)) (member 21 (codes "http://a/p") (scalar 34 (Str (codes "y"))) no_member))) (codes "_:jlb0 <http://a/p> \"y\" .\n" ∷ []) ≡ true
+unfolding brings_in_both
+context_dropped_row = refl
 
 -- {"@id":"http://a/s","@graph":[]}: `@graph` isn't built
 stage_row : stops_in_both (object 0 (member 1 (codes "@id") (scalar 7 (Str (codes "http://a/s"))) (member 20 (codes "@graph") (array 29 no_item) no_member))) code.NotYet 20 ≡ true

@@ -11,7 +11,7 @@ use Rattle.jl_defs.specs.Trees.{then_members}
 use Rattle.jl_defs.specs.Context.{Context}
 use Rattle.jl_defs.specs.Process.{Library}
 use Rattle.jl_defs.specs.Settings.{Settings}
-use Rattle.jl_defs.specs.ObjectContexts.{Inside, Own, Look, look_at, look_at_key, first_context, is_context_name, is_in_prelude, candidates, prelude_looks, after_prelude, after_context, decide_by, decide}
+use Rattle.jl_defs.specs.ObjectContexts.{Inside, Own, Look, look_at, look_at_key, is_context_name, is_in_prelude, candidates, prelude_looks, after_prelude, after_context, decide_by, decide}
 use Rattle.jl_defs.specs.Rest.{own_candidates, prelude_of, ends_run, ends_with, after_run, rest_of}
 use Rattle.jl_defs.specs.OpenTree.{First, quote, brace, bracket, sign, Open, unread, in_scalar, in_array, in_object, in_key, in_member, whole, first_byte, stand_in}
 use Rattle.jl_defs.specs.Settled.{ends_by, ends_prelude, is_some_member, settles_streaming, settled_by_key, settled, has_ended}
@@ -20,19 +20,19 @@ use Rattle.jl_walk.specs.Phases.{Phase, at_start, in_lead, in_run, in_rest, run_
 use Rattle.jl_walk.specs.Frames.{Frame}
 use Rattle.jl_walk.specs.Steps.{then_goes}
 use Rattle.jl_walk.specs.Opening.{enter_at}
+use Rattle.jl_walk.specs.Stage.{unless_own}
 use Rattle.jl_walk.specs.Feeding.{entering_as, entering, decided, feed_members}
 use Rattle.jl_walk.specs.Events.{Event, opens_array, opens_object, a_key, tree_events, members_events}
-use Rattle.jl_walk.specs.States.{leading, leading_key, context_key, Go, then_go, from, go, members_length, in_items, held_with}
+use Rattle.jl_walk.specs.States.{leading, leading_key, Go, then_go, from, go, members_length, in_items, held_with}
 use Rattle.jl_walk.specs.Running.{contexts_of, may_lead, may_type, value_step, ending_key, opened, step, run}
 use Rattle.jl_walk.specs.Closed.{BeginAs, OpenEnters}
-use Rattle.jl_walk.proofs.Entering.{rest_begun, entered_with, next_key}
+use Rattle.jl_walk.proofs.Entering.{rest_begun, next_key}
 use Rattle.jl_walk.proofs.LeadsEnter.{KeyEnds, lead_begun, looks_until, NotFirst, lead-enters}
 use Rattle.jl_walk.proofs.Phases.{settings_of}
 use Rattle.jl_walk.proofs.Goes.{before-none}
-use Rattle.jl_walk.proofs.HeldMembers.{lead, second, then-same, members-both, held-none}
-use Rattle.jl_walk.proofs.HeldValues.{build-tree}
+use Rattle.jl_walk.proofs.HeldMembers.{lead, then-same, members-both}
 use Rattle.jl_walk.proofs.HeldPreludes.{value-cut}
-use Rattle.jl_walk.proofs.Deciding.{prelude-length, context-takes}
+use Rattle.jl_walk.proofs.Deciding.{prelude-length, context-stops}
 
 -- the closed members and the next key
 abbrev pub with_next : Members → ℕ → Text → Tree → Members
@@ -154,27 +154,25 @@ known-start i left (member c m w rest) a n v = refl
 
 -- ---- an object that opens
 
--- after its own context, where it has one
-settles-from : (s : Settings) → s.order ≡ Streaming → (first ms : Members) (p : Spot) (b : ℕ) (k : List Frame) (i : Inside) (a : ℕ) (n : Text) (v : Tree) (es : List Event) →
-    (let cs = contexts_of s p b first in
-    NotFirst (lead p b first no_member k) ms n → ended_or cs ms n v ≡ true →
-    decide_by s p.context p.under (stand_of p.role.around) b (first_context first) (prelude_looks cs (with_next ms a n v)) ≡ Ok i →
-    is_some_member (after_run i true (after_prelude cs (with_next ms a n v))) ≡ true → KeyEnds s p b first k ms a n es →
-    run s (members_events ms (a_key a n ∷ es)) (leading (lead p b first no_member k))
-    ≡ from (then_goes (enter_at p b (Ok (entering_as (at_start (members_length (then_members first (prelude_of cs ms)))) i (then_members first (known i (in_lead (prelude_length cs (with_next ms a n v))) (with_next ms a n v))))) k)
-    (feed_members s (then_members first ms))) (next_key s a n es))
-settles-from s e first ms p b k i a n v es nf c d h ke =
-    let cs = contexts_of s p b first in
+-- once its rest has begun, by the closed members or by the next key, it has entered
+settles-from : (s : Settings) → s.order ≡ Streaming → (ms : Members) (p : Spot) (b : ℕ) (k : List Frame) (i : Inside) (a : ℕ) (n : Text) (v : Tree) (es : List Event) →
+    (let cs = contexts_of s p b no_member in
+    NotFirst (opened p b k) ms n → ended_or cs ms n v ≡ true →
+    decide_by s p.context p.under (stand_of p.role.around) b None (prelude_looks cs (with_next ms a n v)) ≡ Ok i →
+    is_some_member (after_run i true (after_prelude cs (with_next ms a n v))) ≡ true → KeyEnds s p b no_member k ms a n es →
+    run s (members_events ms (a_key a n ∷ es)) (leading (opened p b k))
+    ≡ from (then_goes (enter_at p b (Ok (entering_as (at_start (members_length (prelude_of cs ms))) i (known i (in_lead (prelude_length cs (with_next ms a n v))) (with_next ms a n v)))) k)
+    (feed_members s ms)) (next_key s a n es))
+settles-from s e ms p b k i a n v es nf c d h ke =
+    let cs = contexts_of s p b no_member in
     let g = next_key s a n es in
     let pr = prelude_of cs ms in
-    let len = prelude_length cs ms in
-    let kn = known i (in_lead len) ms in
+    let kn = known i (in_lead (prelude_length cs ms)) ms in
     let begun = lead-so cs i ms a n v c h in
-    lead-enters s ms (lead p b first no_member k) i a n es e nf (ap (decide_by s p.context p.under (stand_of p.role.around) b (first_context first)) (sym (looks-so cs ms a n v c)) ∙ d) begun ke
-    ∙ (ap (λ z. from (entered_with s (second p b (at_start (members_length (then_members z pr))) i (in_lead 0) z k) (then_members z kn) ms) g) (held-none first)
-    ∙ (ap (λ r. from r g) (then-same (enter_at p b (Ok (entering_as (at_start (members_length (then_members first pr))) i (then_members first kn))) k) _ _ (λ l. sym (members-both s first ms l)))
-    ∙ ap (λ z. from (then_goes (enter_at p b (Ok (entering_as (at_start (members_length (then_members first pr))) i (then_members first z))) k) (feed_members s (then_members first ms))) g)
-    (sym (known-lead cs i ms a n v begun) ∙ ap (λ z. known i (in_lead z) (with_next ms a n v)) (sym (length-so cs ms a n v c)))))
+    lead-enters s ms (opened p b k) i a n es e nf (ap (decide_by s p.context p.under (stand_of p.role.around) b None) (sym (looks-so cs ms a n v c)) ∙ d) begun ke
+    ∙ (ap (λ r. from r g) (then-same (enter_at p b (Ok (entering_as (at_start (members_length pr)) i kn)) k) _ _ (λ l. sym (members-both s no_member ms l)))
+    ∙ ap (λ z. from (then_goes (enter_at p b (Ok (entering_as (at_start (members_length pr)) i z)) k) (feed_members s ms)) g)
+    (sym (known-lead cs i ms a n v begun) ∙ ap (λ z. known i (in_lead z) (with_next ms a n v)) (sym (length-so cs ms a n v c))))
 
 and-left : (x y : Bool) → (x && y) ≡ true → x ≡ true
 and-left true y e = refl
@@ -226,58 +224,11 @@ opens-plain base library ms p b k a n v es nf c h ke = by (decide_by s p.context
         ≡ from (then_goes (enter_at p b (entering (at_start (prelude_length cs full)) r full) k) (feed_members s ms)) (next_key s a n es)
     by (Err f) d h = absurd cc
     by (Ok i) d h =
-        settles-from s refl no_member ms p b k i a n v es nf c d h ke
+        settles-from s refl ms p b k i a n v es nf c d h ke
         ∙ (ap (λ z. from (then_goes (enter_at p b (Ok (entering_as (at_start z) i (known i (in_lead (prelude_length cs full)) full))) k) (feed_members s ms)) (next_key s a n es))
         (prelude-length cs ms ∙ sym (length-so cs ms a n v c))
         ∙ ap (λ z. from (then_goes (enter_at p b (Ok (entering_as (at_start (prelude_length cs full)) i z)) k) (feed_members s ms)) (next_key s a n es))
         (sym (known-start i (prelude_length cs full) ms a n v)))
-
--- an object whose own context stands first
-opens-own : (base : Option Text) (library : Library) (c : ℕ) (m : Text) (w : Tree) (rest : Members) (p : Spot) (b : ℕ) (k : List Frame) (a : ℕ) (n : Text) (v : Tree) (es : List Event) →
-    (let s = settings_of Streaming base library in
-    let first = member c m w no_member in
-    let cs = contexts_of s p b first in
-    let full = with_next rest a n v in
-    let r = decide_by s p.context p.under (stand_of p.role.around) b (first_context first) (prelude_looks cs full) in
-    is_context_name m ≡ true → ended_or cs rest n v ≡ true →
-    settled_as r (λ i. is_some_member (after_run i true (after_prelude cs full))) ≡ true → KeyEnds s p b first k rest a n es →
-    run s (members_events (member c m w rest) (a_key a n ∷ es)) (leading (opened p b k))
-    ≡ from (then_goes (enter_at p b (entering (at_start (suc (prelude_length cs full))) r (member c m w full)) k) (feed_members s (member c m w rest))) (next_key s a n es))
-unfolding run step tree_events
-opens-own base library c m w rest p b k a n v es t e h ke =
-    ap (λ x. then_go (elim x [
-      | true ↦ go (context_key (opened p b k) c m)
-      | false ↦ elim (may_lead (contexts_of s p b no_member) m) [ true ↦ go (leading_key (opened p b k) c m) | false ↦ ending_key s (opened p b k) c m ]
-    ]) (run s (tree_events w (members_events rest (a_key a n ∷ es))))) t
-    ∙ (before-none _
-    ∙ (build-tree s w (context_key (opened p b k) c m) (λ u. leading (lead p b (member c m u no_member) no_member k)) (members_events rest (a_key a n ∷ es)) (context-takes s p b c m k)
-    ∙ by (decide_by s p.context p.under (stand_of p.role.around) b (first_context first) (prelude_looks cs full)) refl h))
-  where
-    s : Settings
-    s = settings_of Streaming base library
-
-    first : Members
-    first = member c m w no_member
-
-    cs : List Context
-    cs = contexts_of s p b first
-
-    full : Members
-    full = with_next rest a n v
-
-    not-first : (ms : Members) → NotFirst (lead p b first no_member k) ms n
-    not-first no_member = refl
-    not-first (member d o v more) = refl
-
-    by : (r : Result Inside Fault) → decide_by s p.context p.under (stand_of p.role.around) b (first_context first) (prelude_looks cs full) ≡ r →
-        settled_as r (λ i. is_some_member (after_run i true (after_prelude cs full))) ≡ true →
-        run s (members_events rest (a_key a n ∷ es)) (leading (lead p b first no_member k))
-        ≡ from (then_goes (enter_at p b (entering (at_start (suc (prelude_length cs full))) r (member c m w full)) k) (feed_members s (member c m w rest))) (next_key s a n es)
-    by (Err f) d h = absurd cc
-    by (Ok i) d h =
-        settles-from s refl first rest p b k i a n v es (not-first rest) e d h ke
-        ∙ ap (λ z. from (then_goes (enter_at p b (Ok (entering_as (at_start (suc z)) i (member c m w (known i (in_lead (prelude_length cs full)) full)))) k) (feed_members s (member c m w rest))) (next_key s a n es))
-        (prelude-length cs rest ∙ sym (length-so cs rest a n v e))
 
 -- the first byte of its value tells whether the next key ends the prelude
 next-ends : (cs : List Context) (n : Text) (next : Open) → ends_by cs n (first_byte next) ≡ not (is_in_prelude cs n (stand_in next))
@@ -353,7 +304,7 @@ opens-in : (base : Option Text) (library : Library) (ms : Members) (p : Spot) (b
     settled_with_first s p b ms a n v r ≡ true → BeginAs r es →
     run s (members_events ms (a_key a n ∷ es)) (leading (opened p b k))
     ≡ from (then_goes (enter_at p b (decided s b (with_next ms a n v) p) k) (feed_members s ms)) (next_key s a n es))
-unfolding decide
+unfolding decide tree_events
 opens-in base library no_member p b k a n v r es ne h g =
     let s = settings_of Streaming base library in
     let cs = contexts_of s p b no_member in
@@ -373,7 +324,7 @@ opens-in base library no_member p b k a n v r es ne h g =
     let ds = candidates s p.context p.under (stand_of p.role.around) b own in
     let after : Members = elim x [ true ↦ no_member | false ↦ full ] in
     let len : ℕ = elim x [ true ↦ 1 | false ↦ prelude_length ds full ] in
-    from (then_goes (enter_at p b (entering (at_start len) (decide_by s p.context p.under (stand_of p.role.around) b own (prelude_looks ds after)) full) k) (feed_members s no_member)) (next_key s a n es)) (sym t)
+    from (then_goes (enter_at p b (unless_own own (entering (at_start len) (decide_by s p.context p.under (stand_of p.role.around) b own (prelude_looks ds after)) full)) k) (feed_members s no_member)) (next_key s a n es)) (sym t)
 opens-in base library (member c m w rest) p b k a n v r es ne h g = by (is_context_name m) refl
   where
     s : Settings
@@ -400,7 +351,7 @@ opens-in base library (member c m w rest) p b k a n v r es ne h g = by (is_conte
     entered_as own x =
         let after : Members = elim x [ true ↦ with_next rest a n v | false ↦ full ] in
         let len : ℕ = elim x [ true ↦ suc (prelude_length (of_own own) (with_next rest a n v)) | false ↦ prelude_length (of_own own) full ] in
-        from (then_goes (enter_at p b (entering (at_start len) (decide_by s p.context p.under (stand_of p.role.around) b own (prelude_looks (of_own own) after)) full) k) (feed_members s (member c m w rest))) (next_key s a n es)
+        from (then_goes (enter_at p b (unless_own own (entering (at_start len) (decide_by s p.context p.under (stand_of p.role.around) b own (prelude_looks (of_own own) after)) full)) k) (feed_members s (member c m w rest))) (next_key s a n es)
 
     -- the name of the first member
     x0 : Bool
@@ -423,12 +374,8 @@ opens-in base library (member c m w rest) p b k a n v r es ne h g = by (is_conte
         (λ none held. key-ends s p b no_member held k a n r es (or-second (is_some_member (after_prelude (of_own None) (member c m w rest))) _ e none) g)
         ∙ ap (λ x. entered_as (the-own x) x) (sym t)
     by true t =
-        let first = member c m w no_member in
-        let e = sym (ap (λ x. ended_with (of_own (the-own x0)) x) t) ∙ it-ended in
-        opens-own base library c m w rest p b k a n v es t (or-so (is_some_member (after_prelude (of_own (the-own x0)) rest)) (of_own (the-own x0)) e)
-        (sym (ap (λ x. settled_with (the-own x0) x) t) ∙ it-settled)
-        (λ none held. key-ends s p b first held k a n r es (or-second (is_some_member (after_prelude (of_own (the-own x0)) rest)) _ e none) g)
-        ∙ ap (λ x. entered_as (the-own x0) x) (sym t)
+        context-stops s c m (opened p b k) (tree_events w (members_events rest (a_key a n ∷ es))) refl t
+        ∙ ap (λ x. entered_as (the-own x) x) (sym t)
 
 pub open-enters : OpenEnters
 unfolding settled_by_key

@@ -15,7 +15,7 @@ use Rattle.jl_defs.specs.Texts.{Text, is_iri}
 use Rattle.jl_defs.specs.Context.{TermDef, Context, term}
 use Rattle.jl_defs.specs.Settings.{Settings, Under, property_of, elsewhere, lists}
 use Rattle.jl_defs.specs.Keys.{Key, its_context, id, kind, value, language, direction, index, graph, list, set, other, dropped as dropped_key, property, key_of, is_value, is_kind, is_list, is_set}
-use Rattle.jl_defs.specs.ObjectContexts.{Inside, decide, is_context_name, is_in_prelude, after_context, after_prelude}
+use Rattle.jl_defs.specs.ObjectContexts.{Inside, own_context, decide, is_context_name, is_in_prelude, after_context, after_prelude}
 use Rattle.jl_defs.specs.ValueObjects.{first_with, expand_type}
 use Rattle.jl_defs.specs.Kept.{own_member, any_key, is_only_language, if_key, form_of, form_keeps, keeps, entries, entries_by, value_gives, object_gives, decided_keeps, is_list_object, nested_keys, nest_inside, nested_entries, has_any, reversed_entries}
 use Rattle.jl_defs.specs.Graphs.{Shape, value_object, list_object, set_object, language_alone, graph_alone, node_object, is_graph_alone, begins_graph, is_graph_by_all, is_graph_by_rest, is_graph_with, reads_as_graph, shape_of}
@@ -29,7 +29,7 @@ use Rattle.jl_defs.specs.NodeMap.{term_of_text, rdf_type}
 use Rattle.jl_laws.specs.Spots.{Around, document, ordinary, graphs, map_entry, graph_map_entry, Spot, spot, stand_of, linked, Said, Content, Own, head}
 use Rattle.jl_laws.specs.Says.{walk, members_say, object_says, value_at_spot, decided_says, types_say, type_says, by_key, is_given, property_head}
 use Rattle.jl_walk.specs.Frames.{around_by}
-use Rattle.jl_walk.specs.Stage.{is_built_key, is_built_term, forms, decided_forms, key_forms, members_forms, json_form, is_json_object}
+use Rattle.jl_walk.specs.Stage.{is_built_key, is_built_term, context_form, forms, decided_forms, key_forms, members_forms, json_form, is_json_object}
 use Rattle.jl_walk.specs.Phases.{known, first_phase}
 use Rattle.jl_walk.specs.Laws.{IsPlain, IsPlainAround}
 use Rattle.jl_walk.proofs.Forms.{built-form, built-lists, built-said}
@@ -217,8 +217,8 @@ unfolding walk keeps forms
 quiet-value s c n g h (scalar at Null) plain b e = refl
 quiet-value s c n g h (scalar at v) plain b e = absurd cc
 quiet-value s c n g h (array at xs) plain b e = absurd cc
-quiet-value s c n true h (object at ms) plain b e = quiet-object s (spot c (property_of n) graphs linked h) at ms (decide s c (property_of n) elsewhere at ms) (λ i. is_json_object i (known i (first_phase s c (property_of n) elsewhere at ms) ms)) _ _ _ _ (plain, tt) b e
-quiet-value s c n false h (object at ms) plain b e = quiet-object s (spot c (property_of n) ordinary linked h) at ms (decide s c (property_of n) elsewhere at ms) (λ i. is_json_object i (known i (first_phase s c (property_of n) elsewhere at ms) ms)) _ _ _ _ (plain, tt) b e
+quiet-value s c n true h (object at ms) plain b e = quiet-object s (spot c (property_of n) graphs linked h) at ms (decide s c (property_of n) elsewhere at ms) (λ i. is_json_object i (known i (first_phase s c (property_of n) elsewhere at ms) ms)) _ _ _ _ (plain, tt) (right-nil (context_form (own_context s.order ms)) _ b) e
+quiet-value s c n false h (object at ms) plain b e = quiet-object s (spot c (property_of n) ordinary linked h) at ms (decide s c (property_of n) elsewhere at ms) (λ i. is_json_object i (known i (first_phase s c (property_of n) elsewhere at ms) ms)) _ _ _ _ (plain, tt) (right-nil (context_form (own_context s.order ms)) _ b) e
 
 -- ---- members that say nothing
 

@@ -4,13 +4,14 @@ use Rattle.jl_model.specs.JsonTree.{Tree, scalar, array, object, Trees, no_item,
 use Rattle.jl_model.specs.declared.faults.Fault.{Fault}
 use Rattle.jl_defs.specs.Settings.{Settings}
 use Rattle.jl_defs.specs.Keys.{is_value}
-use Rattle.jl_defs.specs.ObjectContexts.{Inside, decide}
+use Rattle.jl_defs.specs.ObjectContexts.{Inside, own_context, decide}
 use Rattle.jl_defs.specs.ValueObjects as objects
 use Rattle.jl_defs.specs.ValueObjects.{first_with, is_json_type}
 use Rattle.jl_defs.specs.Expansion.{naming}
 use Rattle.jl_laws.specs.Spots.{Spot, stand_of}
 use Rattle.jl_laws.specs.Says.{root_spot}
 use Rattle.jl_walk.specs.Phases.{Phase, known, first_phase}
+use Rattle.jl_walk.specs.Stage.{unless_own}
 use Rattle.jl_walk.specs.Frames.{Frame, values}
 use Rattle.jl_walk.specs.Steps.{Step, quiet, then_goes}
 use Rattle.jl_walk.specs.Scalars.{take_scalar}
@@ -36,8 +37,9 @@ entering ph (Ok i) ms = Ok (entering_as ph i (known i ph ms))
 -- an object with these members, decided at a spot
 abbrev pub decided : Settings → ℕ → Members → Spot → Result Entering Fault
 decided s at ms p =
-    entering (first_phase s p.context p.under (stand_of p.role.around) at ms)
-    (decide s p.context p.under (stand_of p.role.around) at ms) ms
+    unless_own (own_context s.order ms)
+    (entering (first_phase s p.context p.under (stand_of p.role.around) at ms)
+    (decide s p.context p.under (stand_of p.role.around) at ms) ms)
 
 unfoldable mutual
   -- what a value brings on these frames

@@ -13,3 +13,4 @@ pub mod Running
 pub mod Laws
 pub mod Closed
 pub mod Due
+pub mod Fits

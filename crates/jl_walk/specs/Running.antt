@@ -129,11 +129,12 @@ abbrev pub nothing_held : Members → Members → Bool
 nothing_held no_member no_member = true
 nothing_held first held = false
 
--- a key may lead, or it ends the prelude; at its end an object is decided by all that is held
+-- a context of its own isn't built; another key may lead, or it ends the prelude; at its end an object is decided by all that
+-- is held
 abbrev pub lead_step : Settings → Event → Lead → Go
 lead_step s (a_key a n) l =
     elim (nothing_held l.first l.held && is_context_name n) [
-      | true ↦ go (context_key l a n)
+      | true ↦ Err (fault code.NotYet a)
       | false ↦ elim (may_lead (contexts_of s l.spot l.place l.first) n) [ true ↦ go (leading_key l a n) | false ↦ ending_key s l a n ]
     ]
 lead_step s e l =

@@ -1,11 +1,12 @@
 -- The forms that aren't built, and their places in a document. A form that comes takes away its clause.
 use Rattle.std.specs.Prelude.{ℕ, Bool, true, false, not, ◌&&◌, ◌||◌, List, [], ◌∷◌, ◌++◌, Option, Some, None, is_some, Result, Ok, Err}
 use Rattle.jl_model.specs.JsonTree.{Tree, scalar, array, object, Trees, no_item, item, Members, no_member, member}
+use Rattle.jl_model.specs.declared.codes.Code.TheVariants as code
 use Rattle.jl_model.specs.declared.faults.Fault.{Fault}
 use Rattle.jl_defs.specs.Context.{TermDef, Context, term, initial}
 use Rattle.jl_defs.specs.Settings.{Settings, Under, no_property, property_of, Stand, root, elsewhere, inside_of}
 use Rattle.jl_defs.specs.Keys.{Key, graph, included, list, set, reverse, nest, property, key_of, is_value}
-use Rattle.jl_defs.specs.ObjectContexts.{Inside, decide}
+use Rattle.jl_defs.specs.ObjectContexts.{fault, Inside, Own, own_context, decide}
 use Rattle.jl_defs.specs.ValueObjects.{first_with, is_json, is_json_type, value_type}
 use Rattle.jl_defs.specs.Kept.{is_json_kind}
 use Rattle.jl_walk.specs.Phases.{known, first_phase}
@@ -43,6 +44,16 @@ abbrev pub decided_forms : Result Inside Fault → (Inside → List ℕ) → Lis
 decided_forms (Ok i) answer = answer i
 decided_forms (Err f) answer = []
 
+-- the place of an object's own context, which isn't built
+abbrev pub context_form : Option Own → List ℕ
+context_form None = []
+context_form (Some own) = own.at ∷ []
+
+-- an object with a context of its own stops at it
+abbrev pub unless_own : {A : Type 0} → Option Own → Result A Fault → Result A Fault
+unless_own None r = r
+unless_own (Some own) r = Err (fault code.NotYet own.at)
+
 -- these members make a JSON literal
 abbrev pub is_json_object : Inside → Members → Bool
 is_json_object i ms = is_some (first_with is_value i.final ms) && (is_json i.input || is_json_type (value_type i ms))
@@ -58,7 +69,8 @@ unfoldable mutual
   forms s c under stand (scalar at v) = []
   forms s c under stand (array at xs) = items_forms s c under (inside_of stand) xs
   forms s c under stand (object at ms) =
-      decided_forms (decide s c under stand at ms)
+      context_form (own_context s.order ms)
+      ++ decided_forms (decide s c under stand at ms)
       (λ i. json_form (is_json_object i (known i (first_phase s c under stand at ms) ms)) at ++ members_forms s i ms)
 
   -- those of items

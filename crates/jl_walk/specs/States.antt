@@ -34,7 +34,7 @@ pub record Second : Type 0 where
 pub data State : Type 0 where
   at : (frames : List Frame) → State
   leading : (lead : Lead) → State
-  -- after a key, and after the key of its own context
+  -- after a key; and after the key of its own context, which is never reached while this isn't built
   leading_key : (lead : Lead) → (a : ℕ) → (n : Text) → State
   context_key : (lead : Lead) → (a : ℕ) → (n : Text) → State
   running : (second : Second) → State
