@@ -1,4 +1,4 @@
--- The words that the events of what has been read tell stand in the bytes at their places.
+-- The words in the events of what has been read stand in the bytes at their places.
 use Rattle.std.proofs.Common.{ℕ, ◌+◌, ◌≡◌, inl, inr, sym, ◌∙◌, ap, subst, Bool, true, false, List, [], ◌∷◌, ◌++◌, length, codes, arith, append_assoc, length-append}
 use Rattle.std.proofs.lemmas.List.{append-nil}
 use Rattle.jl_model.specs.declared.scalars.Scalar.{Scalar}
@@ -8,19 +8,17 @@ use Rattle.jl_model.specs.JsonTree.{Tree, scalar, array, object, Trees, no_item,
 use Rattle.jl_model.specs.JsonText.{Then, Blanks, Colon, ValueText, ItemsText, MoreItems, MembersText, MoreMembers, IsScalar, depth_limit}
 use Rattle.jl_defs.specs.OpenTree.{Open, unread, in_scalar, in_array, in_object, in_key, in_member, whole, IsUnread}
 use Rattle.jl_defs.specs.OpenText.{Language, Either, Where, OpenPair, ItemsThen, MoreItemsThen, MembersThen, MoreMembersThen, OpenText, Opens}
-use Rattle.jl_engine.specs.declared.events.Event.{Event}
-use Rattle.jl_engine.specs.declared.events.Event.TheVariants as events
-use Rattle.jl_engine.specs.TreeEvents.{tree_events, items_events, members_events}
-use Rattle.jl_engine.specs.OpenEvents.{open_events}
+use Rattle.jl_walk.specs.Due.{open_events}
+use Rattle.jl_walk.specs.Events.{Event, opens_object, opens_array, closes, a_key, a_scalar, tree_events, items_events, members_events}
 
 -- the word stands in the text, whose first byte has the place `at`, at its own place
 abbrev pub WordAt : ℕ → List ℕ → ℕ → List ℕ → Type 0
 WordAt at t q word = (before : List ℕ) × (behind : List ℕ) × (t ≡ before ++ (word ++ behind)) × (q ≡ at + length before)
 
 abbrev pub Located : ℕ → List ℕ → Event → Type 0
-Located at t (events.Value q Null) = WordAt at t q (codes "null")
-Located at t (events.Value q (boolean true)) = WordAt at t q (codes "true")
-Located at t (events.Value q (boolean false)) = WordAt at t q (codes "false")
+Located at t (a_scalar q Null) = WordAt at t q (codes "null")
+Located at t (a_scalar q (boolean true)) = WordAt at t q (codes "true")
+Located at t (a_scalar q (boolean false)) = WordAt at t q (codes "false")
 Located at t e = Unit {0}
 
 abbrev pub AllLocated : ℕ → List ℕ → List Event → Type 0
@@ -34,26 +32,26 @@ word-right : (at : ℕ) (x y : List ℕ) (q : ℕ) (word : List ℕ) → WordAt 
 word-right at x y q word (f, b, e, p) = (x ++ f, b, ap (λ z. x ++ z) e ∙ sym (append_assoc x f (word ++ b)), omega (arith, p, length-append x f))
 
 located-left : (at : ℕ) (x y : List ℕ) (e : Event) → Located at x e → Located at (x ++ y) e
-located-left at x y (events.Value q Null) l = word-left at x y q (codes "null") l
-located-left at x y (events.Value q (boolean true)) l = word-left at x y q (codes "true") l
-located-left at x y (events.Value q (boolean false)) l = word-left at x y q (codes "false") l
-located-left at x y (events.Value q (Number n)) l = tt
-located-left at x y (events.Value q (Str m)) l = tt
-located-left at x y (events.OpensObject q) l = tt
-located-left at x y (events.OpensArray q) l = tt
-located-left at x y events.Closes l = tt
-located-left at x y (events.Key q n) l = tt
+located-left at x y (a_scalar q Null) l = word-left at x y q (codes "null") l
+located-left at x y (a_scalar q (boolean true)) l = word-left at x y q (codes "true") l
+located-left at x y (a_scalar q (boolean false)) l = word-left at x y q (codes "false") l
+located-left at x y (a_scalar q (Number n)) l = tt
+located-left at x y (a_scalar q (Str m)) l = tt
+located-left at x y (opens_object q) l = tt
+located-left at x y (opens_array q) l = tt
+located-left at x y closes l = tt
+located-left at x y (a_key q n) l = tt
 
 located-right : (at : ℕ) (x y : List ℕ) (e : Event) → Located (at + length x) y e → Located at (x ++ y) e
-located-right at x y (events.Value q Null) l = word-right at x y q (codes "null") l
-located-right at x y (events.Value q (boolean true)) l = word-right at x y q (codes "true") l
-located-right at x y (events.Value q (boolean false)) l = word-right at x y q (codes "false") l
-located-right at x y (events.Value q (Number n)) l = tt
-located-right at x y (events.Value q (Str m)) l = tt
-located-right at x y (events.OpensObject q) l = tt
-located-right at x y (events.OpensArray q) l = tt
-located-right at x y events.Closes l = tt
-located-right at x y (events.Key q n) l = tt
+located-right at x y (a_scalar q Null) l = word-right at x y q (codes "null") l
+located-right at x y (a_scalar q (boolean true)) l = word-right at x y q (codes "true") l
+located-right at x y (a_scalar q (boolean false)) l = word-right at x y q (codes "false") l
+located-right at x y (a_scalar q (Number n)) l = tt
+located-right at x y (a_scalar q (Str m)) l = tt
+located-right at x y (opens_object q) l = tt
+located-right at x y (opens_array q) l = tt
+located-right at x y closes l = tt
+located-right at x y (a_key q n) l = tt
 
 -- what stands in a part stands in the whole
 module _ (start : ℕ) (all : List ℕ) where
@@ -69,7 +67,7 @@ module _ (start : ℕ) (all : List ℕ) where
   word-whole : (at : ℕ) (t word : List ℕ) → t ≡ word → WordAt at t at word
   word-whole at t word e = ([], [], e ∙ sym (append-nil word), omega arith)
 
-  scalar-located : (place at : ℕ) (v : Scalar) (t : List ℕ) → place ≡ at → IsScalar v t → Located at t (events.Value place v)
+  scalar-located : (place at : ℕ) (v : Scalar) (t : List ℕ) → place ≡ at → IsScalar v t → Located at t (a_scalar place v)
   scalar-located place at Null t e s = subst (λ q. WordAt at t q (codes "null")) (sym e) (word-whole at t (codes "null") s)
   scalar-located place at (boolean true) t e s = subst (λ q. WordAt at t q (codes "true")) (sym e) (word-whole at t (codes "true") s)
   scalar-located place at (boolean false) t e s = subst (λ q. WordAt at t q (codes "false")) (sym e) (word-whole at t (codes "false") s)
@@ -83,20 +81,20 @@ module _ (start : ℕ) (all : List ℕ) where
     unfolding tree_events
 
     value-located : (once : Bool) (room : ℕ) (v : Tree) (at : ℕ) (us : List Token) (t : List ℕ) (more : List Event) → ValueText once room v at us t → Fits at t → Are more → Are (tree_events v more)
-    value-located once room (scalar place s) at us t more h f a = (f (events.Value place s) (scalar-located place at s t h.place_is h.spelled), a)
+    value-located once room (scalar place s) at us t more h f a = (f (a_scalar place s) (scalar-located place at s t h.place_is h.spelled), a)
     value-located once room (array place xs) at us t more h f a =
         let i = h.spelled in (tt, items-located once h.left xs _ i.back_tokens i.back more i.in_second (back-fits _ _ at us t i f) a)
     value-located once room (object place ms) at us t more h f a =
         let i = h.spelled in (tt, members-located once h.left [] ms _ i.back_tokens i.back more i.in_second (back-fits _ _ at us t i f) a)
 
-    items-located : (once : Bool) (room : ℕ) (xs : Trees) (at : ℕ) (us : List Token) (t : List ℕ) (more : List Event) → ItemsText once room xs at us t → Fits at t → Are more → Are (items_events xs (events.Closes ∷ more))
+    items-located : (once : Bool) (room : ℕ) (xs : Trees) (at : ℕ) (us : List Token) (t : List ℕ) (more : List Event) → ItemsText once room xs at us t → Fits at t → Are more → Are (items_events xs (closes ∷ more))
     items-located once room no_item at us t more h f a = (tt, a)
     items-located once room (item v vs) at us t more h f a =
         let g = back-fits _ _ at us t h f in
         let i = h.in_second in
         value-located once room v _ i.front_tokens i.front _ i.in_first (front-fits _ _ _ _ _ i g) (more-located once room vs _ i.back_tokens i.back more i.in_second (back-fits _ _ _ _ _ i g) a)
 
-    more-located : (once : Bool) (room : ℕ) (xs : Trees) (at : ℕ) (us : List Token) (t : List ℕ) (more : List Event) → MoreItems once room xs at us t → Fits at t → Are more → Are (items_events xs (events.Closes ∷ more))
+    more-located : (once : Bool) (room : ℕ) (xs : Trees) (at : ℕ) (us : List Token) (t : List ℕ) (more : List Event) → MoreItems once room xs at us t → Fits at t → Are more → Are (items_events xs (closes ∷ more))
     more-located once room no_item at us t more h f a = (tt, a)
     more-located once room (item v vs) at us t more h f a =
         let g = back-fits _ _ at us t h f in
@@ -107,7 +105,7 @@ module _ (start : ℕ) (all : List ℕ) where
         let i = b.in_second in
         value-located once room v _ i.front_tokens i.front _ i.in_first (front-fits _ _ _ _ _ i l) (more-located once room vs _ i.back_tokens i.back more i.in_second (back-fits _ _ _ _ _ i l) a)
 
-    members-located : (once : Bool) (room : ℕ) (had : List (List ℕ)) (ms : Members) (at : ℕ) (us : List Token) (t : List ℕ) (more : List Event) → MembersText once room had ms at us t → Fits at t → Are more → Are (members_events ms (events.Closes ∷ more))
+    members-located : (once : Bool) (room : ℕ) (had : List (List ℕ)) (ms : Members) (at : ℕ) (us : List Token) (t : List ℕ) (more : List Event) → MembersText once room had ms at us t → Fits at t → Are more → Are (members_events ms (closes ∷ more))
     members-located once room had no_member at us t more h f a = (tt, a)
     members-located once room had (member place name v ms) at us t more h f a =
         let g1 = back-fits _ _ at us t h f in
@@ -122,7 +120,7 @@ module _ (start : ℕ) (all : List ℕ) where
         let i = d.in_second in
         (tt, value-located once room v _ i.front_tokens i.front _ i.in_first (front-fits _ _ _ _ _ i g5) (more-members-located once room (name ∷ had) ms _ i.back_tokens i.back more i.in_second (back-fits _ _ _ _ _ i g5) a))
 
-    more-members-located : (once : Bool) (room : ℕ) (had : List (List ℕ)) (ms : Members) (at : ℕ) (us : List Token) (t : List ℕ) (more : List Event) → MoreMembers once room had ms at us t → Fits at t → Are more → Are (members_events ms (events.Closes ∷ more))
+    more-members-located : (once : Bool) (room : ℕ) (had : List (List ℕ)) (ms : Members) (at : ℕ) (us : List Token) (t : List ℕ) (more : List Event) → MoreMembers once room had ms at us t → Fits at t → Are more → Are (members_events ms (closes ∷ more))
     more-members-located once room had no_member at us t more h f a = (tt, a)
     more-members-located once room had (member place name v ms) at us t more h f a =
         let f1 = back-fits _ _ at us t h f in
@@ -213,8 +211,7 @@ module _ (start : ℕ) (all : List ℕ) where
         let i = d.in_second in
         (tt, value-located once room v _ i.front_tokens i.front _ i.in_first (front-fits _ _ _ _ _ i g5) (more-members-then once room (name ∷ had) ms ends Bare L es go bare _ i.back_tokens i.back i.in_second.1.1 (back-fits _ _ _ _ _ i g5)))
 
-  bare-next : (next : Open) → IsUnread next → Are (open_events next [])
-  unfolding open_events
+  bare-next : (next : Open) → IsUnread next → Are (open_events next)
   bare-next unread b = tt
   bare-next (in_scalar at first) b = tt
   bare-next next b = absurd b
@@ -229,15 +226,15 @@ module _ (start : ℕ) (all : List ℕ) where
       value (inl b) f = bare b.0
       value (inr h) f = go _ _ _ h.in_second.in_second (back-fits _ _ _ _ _ h.in_second (back-fits _ _ _ _ _ h f))
 
-  open-located : (once : Bool) (room : ℕ) (o : Open) → Goes (OpenText once room o) (open_events o [])
-  unfolding OpenText open_events
+  open-located : (once : Bool) (room : ℕ) (o : Open) → Goes (OpenText once room o) (open_events o)
+  unfolding OpenText
   open-located once room unread at us t h f = tt
   open-located once room (in_scalar place first) at us t h f = tt
   open-located once room (in_array place xs next) at us t h f =
       let g = back-fits _ _ at us t h f in
       let c = h.in_second in
       let i = c.spelled in
-      (tt, items-then once c.left xs (IsUnread next) (OpenText once c.left next) (open_events next []) (λ at us t h f. open-located once c.left next at us t h f) (bare-next next) _ i.back_tokens i.back i.in_second (back-fits _ _ _ _ _ i g))
+      (tt, items-then once c.left xs (IsUnread next) (OpenText once c.left next) (open_events next) (λ at us t h f. open-located once c.left next at us t h f) (bare-next next) _ i.back_tokens i.back i.in_second (back-fits _ _ _ _ _ i g))
   open-located once room (in_object place ms ends) at us t h f =
       let g = back-fits _ _ at us t h f in
       let c = h.in_second in
@@ -253,15 +250,14 @@ module _ (start : ℕ) (all : List ℕ) where
       let c = h.in_second in
       let i = c.spelled in (
         tt,
-        members-then once c.left [] ms ends _ (OpenPair once a name (IsUnread next) (OpenText once c.left next)) (events.Key a name ∷ open_events next [])
-            (λ had at us t h f. (tt, pair-located once a name (IsUnread next) (OpenText once c.left next) (open_events next []) (λ at us t h f. open-located once c.left next at us t h f) (bare-next next) had at us t h f)) (λ b. absurd b)
+        members-then once c.left [] ms ends _ (OpenPair once a name (IsUnread next) (OpenText once c.left next)) (a_key a name ∷ open_events next)
+            (λ had at us t h f. (tt, pair-located once a name (IsUnread next) (OpenText once c.left next) (open_events next) (λ at us t h f. open-located once c.left next at us t h f) (bare-next next) had at us t h f)) (λ b. absurd b)
             _ i.back_tokens i.back i.in_second (back-fits _ _ _ _ _ i g),
       )
   open-located once room (whole v) at us t h f = absurd h
 
 -- the words of what has been read of a document
-pub words-located : (bytes : List ℕ) (o : Open) → Opens bytes o → AllLocated 0 bytes (open_events o [])
-unfolding open_events
+pub words-located : (bytes : List ℕ) (o : Open) → Opens bytes o → AllLocated 0 bytes (open_events o)
 words-located bytes (whole v) (us, h) =
     let g = back-fits 0 bytes _ _ 0 us bytes h (λ e l. l) in
     let i = h.in_second in

@@ -8,23 +8,21 @@ use Rattle.jl_model.specs.declared.scalars.Scalar.TheVariants.{Null, Bool as boo
 use Rattle.jl_model.specs.declared.tokens.Token.{Token}
 use Rattle.jl_model.specs.declared.tokens.Token.TheVariants as tokens
 use Rattle.jl_token.specs.Lexed.{Ends, IsNumberToken}
-use Rattle.jl_defs.specs.Context.{Context, initial}
 use Rattle.jl_defs.specs.Settings.{Settings}
-use Rattle.jl_context.specs.Contexts.{context_of}
-use Rattle.jl_frames.specs.declared.states.StackState.{StackState}
-use Rattle.jl_frames.specs.Machine as machine
-use Rattle.jl_frames.specs.Machine.{Step, start}
-use Rattle.jl_frames.specs.Facts.{step}
-use Rattle.jl_frames.specs.Streamed.{tell}
-use Rattle.jl_engine.specs.declared.events.Event.{Event}
-use Rattle.jl_engine.specs.declared.events.Event.TheVariants as events
-use Rattle.jl_engine.specs.declared.cursors.Cursor.{Cursor}
+use Rattle.jl_frames.specs.Formed.{formed}
+use Rattle.jl_walk.specs.Events.{Event, opens_object, opens_array, closes, a_key, a_scalar, tree_events, items_events, members_events}
+use Rattle.jl_walk.specs.Feeding.{start}
+use Rattle.jl_walk.specs.Running.{step, run}
+use Rattle.jl_walk.specs.Scalars.{take_scalar}
+use Rattle.jl_walk.specs.States.{State, at, Go}
+use Rattle.jl_walk.proofs.Parting.{quads_of}
 use Rattle.jl_engine.specs.declared.engines.EngineState.{EngineState}
-use Rattle.jl_engine.specs.Translation.{at_start, event_step, events_step}
-use Rattle.jl_engine.specs.TreeEvents.{event_of, events_of, tree_events, items_events, members_events}
+use Rattle.jl_engine.specs.declared.readers.Reader.{Reader}
+use Rattle.jl_engine.specs.TreeEvents.{event_of, walked}
 use Rattle.jl_engine.specs.Standing.{Stands}
-use Rattle.jl_engine.proofs.TokensOfTrees.{events-of-append, read-events}
-use Rattle.jl_engine.proofs.Continuing.{told_of}
+use Rattle.jl_engine.proofs.TokensOfTrees.{walk_events, walk-append, read-events}
+use Rattle.jl_engine.proofs.Continuing.{walk_of}
+use Rattle.jl_engine.proofs.Walked.{Goes}
 
 last_of : Event → List Event → Event
 last_of d [] = d
@@ -43,9 +41,9 @@ mutual
   unfolding last_of tree_events items_events members_events
 
   tree-ends : (t : Tree) (d : Event) (more : List Event) → EndsAs d (tree_events t more) more
-  tree-ends (scalar at v) d more = (events.Value at v, refl)
-  tree-ends (array at xs) d more = let r = items-end xs (events.OpensArray at) (events.Closes ∷ more) in (events.Closes, r.1)
-  tree-ends (object at ms) d more = let r = members-end ms (events.OpensObject at) (events.Closes ∷ more) in (events.Closes, r.1)
+  tree-ends (scalar place v) d more = (a_scalar place v, refl)
+  tree-ends (array place xs) d more = let r = items-end xs (opens_array place) (closes ∷ more) in (closes, r.1)
+  tree-ends (object place ms) d more = let r = members-end ms (opens_object place) (closes ∷ more) in (closes, r.1)
 
   items-end : (xs : Trees) (d : Event) (more : List Event) → EndsAs d (items_events xs more) more
   items-end no_item d more = (d, refl)
@@ -56,71 +54,69 @@ mutual
 
   members-end : (ms : Members) (d : Event) (more : List Event) → EndsAs d (members_events ms more) more
   members-end no_member d more = (d, refl)
-  members-end (member at n v rest) d more =
-      let a = tree-ends v (events.Key at n) (members_events rest more) in
+  members-end (member place n v rest) d more =
+      let a = tree-ends v (a_key place n) (members_events rest more) in
       let b = members-end rest a.0 more in
       (b.0, a.1 ∙ b.1)
 
 -- what closes is no number
-not-closed : (t : Token) → IsNumberToken t → event_of t ≡ events.Closes → ⊥
-not-closed (tokens.Value at v) n e = cc
-not-closed (tokens.OpenObject at) n e = n
-not-closed (tokens.CloseObject at) n e = n
-not-closed (tokens.OpenArray at) n e = n
-not-closed (tokens.CloseArray at) n e = n
-not-closed (tokens.Key at name) n e = n
+not-closed : (t : Token) → IsNumberToken t → walked (event_of t) ≡ closes → ⊥
+not-closed (tokens.Value place v) n e = cc
+not-closed (tokens.OpenObject place) n e = n
+not-closed (tokens.CloseObject place) n e = n
+not-closed (tokens.OpenArray place) n e = n
+not-closed (tokens.CloseArray place) n e = n
+not-closed (tokens.Key place name) n e = n
 
-nothing-before : (given : List Token) (x y : Event) → events_of given ++ x ∷ [] ≡ y ∷ [] → given ≡ []
+nothing-before : (given : List Token) (x y : Event) → walk_events given ++ x ∷ [] ≡ y ∷ [] → given ≡ []
 nothing-before [] x y e = refl
 nothing-before (g ∷ []) x y e = cc
 nothing-before (g ∷ (h ∷ given)) x y e = cc
 
-alone : (given : List Token) (t : Token) (tree : Tree) → IsNumberToken t → events_of given ++ event_of t ∷ [] ≡ tree_events tree [] → given ≡ []
+alone : (given : List Token) (t : Token) (tree : Tree) → IsNumberToken t → walk_events given ++ walked (event_of t) ∷ [] ≡ tree_events tree [] → given ≡ []
 unfolding last_of tree_events tree-ends
-alone given t (scalar at v) n e = nothing-before given (event_of t) (events.Value at v) e
-alone given t (array at xs) n e =
-    absurd (not-closed t n (sym (last-append events.Closes (event_of t) (events_of given)) ∙ (ap (last_of events.Closes) e ∙ (tree-ends (array at xs) events.Closes []).1)))
-alone given t (object at ms) n e =
-    absurd (not-closed t n (sym (last-append events.Closes (event_of t) (events_of given)) ∙ (ap (last_of events.Closes) e ∙ (tree-ends (object at ms) events.Closes []).1)))
+alone given t (scalar place v) n e = nothing-before given (walked (event_of t)) (a_scalar place v) e
+alone given t (array place xs) n e =
+    absurd (not-closed t n (sym (last-append closes (walked (event_of t)) (walk_events given)) ∙ (ap (last_of closes) e ∙ (tree-ends (array place xs) closes []).1)))
+alone given t (object place ms) n e =
+    absurd (not-closed t n (sym (last-append closes (walked (event_of t)) (walk_events given)) ∙ (ap (last_of closes) e ∙ (tree-ends (object place ms) closes []).1)))
 
-ok-quads : (ps qs : List Parts) (s t : StackState) → ◌≡◌ {A = Step} (Ok (ps, s)) (Ok (qs, t)) → qs ≡ ps
-ok-quads ps qs s t e = ap (λ x. x.0) (sym (pair e))
-  where
-    pair : ◌≡◌ {A = Step} (Ok (ps, s)) (Ok (qs, t)) → ◌≡◌ {A = List Parts × StackState} (ps, s) (qs, t)
-    pair e = cc
+ok-quads : (p q : List Parts) (y z : State) → ◌≡◌ {A = Go} (Ok (p, y)) (Ok (q, z)) → q ≡ p
+ok-quads p q y z e = sym (ap quads_of e)
 
 -- at the start a number brings nothing
-number-brings : (c : Context) (t : Token) (more : List Parts) (stack : StackState) → IsNumberToken t → tell (events_step c (events_of (t ∷ [])) at_start).0 start ≡ Ok (more, stack) → more ≡ []
-unfolding tell events_step event_step step machine.scalar
-number-brings c (tokens.Value at (Number digits)) more stack n e = ok-quads [] more _ stack e
-number-brings c (tokens.Value at Null) more stack n e = absurd n
-number-brings c (tokens.Value at (boolean b)) more stack n e = absurd n
-number-brings c (tokens.Value at (Str text)) more stack n e = absurd n
-number-brings c (tokens.OpenObject at) more stack n e = absurd n
-number-brings c (tokens.CloseObject at) more stack n e = absurd n
-number-brings c (tokens.OpenArray at) more stack n e = absurd n
-number-brings c (tokens.CloseArray at) more stack n e = absurd n
-number-brings c (tokens.Key at name) more stack n e = absurd n
+number-brings : (s : Settings) (t : Token) (q : List Parts) (z : State) → IsNumberToken t → run s (walk_events (t ∷ [])) (at (start s)) ≡ Ok (q, z) → q ≡ []
+unfolding run step take_scalar
+number-brings s (tokens.Value place (Number digits)) q z n e = ok-quads [] q _ z e
+number-brings s (tokens.Value place Null) q z n e = absurd n
+number-brings s (tokens.Value place (boolean b)) q z n e = absurd n
+number-brings s (tokens.Value place (Str text)) q z n e = absurd n
+number-brings s (tokens.OpenObject place) q z n e = absurd n
+number-brings s (tokens.CloseObject place) q z n e = absurd n
+number-brings s (tokens.OpenArray place) q z n e = absurd n
+number-brings s (tokens.CloseArray place) q z n e = absurd n
+number-brings s (tokens.Key place name) q z n e = absurd n
 
-none-brings : (c : Context) (u : Cursor) (s : StackState) (more : List Parts) (stack : StackState) → tell (events_step c [] u).0 s ≡ Ok (more, stack) → more ≡ []
-unfolding tell events_step
-none-brings c u s more stack e = ok-quads [] more s stack e
+none-brings : (s : Settings) (y z : State) (q : List Parts) → run s [] y ≡ Ok (q, z) → q ≡ []
+unfolding run
+none-brings s y z q e = ok-quads [] q y z e
+
+state-same : (p q : List Parts) (y z : State) → ◌≡◌ {A = Go} (Ok (p, y)) (Ok (q, z)) → y ≡ z
+state-same p q y z e = ap (λ x. x.1) (pair e)
+  where
+    pair : ◌≡◌ {A = Go} (Ok (p, y)) (Ok (q, z)) → ◌≡◌ {A = List Parts × State} (p, y) (q, z)
+    pair e = cc
+
+still-at-start : (s : Settings) (given : List Token) (q : List Parts) (z : State) → given ≡ [] → walk_of s given ≡ Ok (q, z) → at (start s) ≡ z
+unfolding run
+still-at-start s given q z none e = state-same [] q (at (start s)) z (ap (walk_of s) (sym none) ∙ e)
 
 -- the last token that the end completes brings no quads
-pub end-quiet : (s : Settings) (bytes : List ℕ) (quads : List Parts) (token : Option Token) (more : List Parts) (old : EngineState) (stack : StackState) → Stands s bytes quads old → Ends old.lexer token → IfSome token IsNumberToken →
-    tell (events_step (context_of old.context) (events_of (option_to_list token)) old.cursor).0 old.stack ≡ Ok (more, stack) → more ≡ []
-unfolding tell events_step
-end-quiet s bytes quads None more old stack h ends n e = none-brings (context_of old.context) old.cursor old.stack more stack e
-end-quiet s bytes quads (Some t) more old stack h ends n e =
+pub end-quiet : (s : Settings) (bytes : List ℕ) (quads : List Parts) (token : Option Token) (more : List Parts) (old : EngineState) (new : Reader) → (h : Stands s bytes quads old) → Ends old.lexer token → IfSome token IsNumberToken →
+    Goes s (run s (walk_events (option_to_list token)) h.state) more new → more ≡ []
+end-quiet s bytes quads None more old new h ends n g = g.quads_are ∙ ap formed (none-brings s h.state g.state g.said g.goes)
+end-quiet s bytes quads (Some t) more old new h ends n g =
     let read = ends 0 bytes h.tokens h.lexer in
-    let none : h.tokens ≡ [] = alone h.tokens t read.0 n (sym (events-of-append h.tokens (t ∷ [])) ∙ read-events 0 bytes read.0 (h.tokens ++ t ∷ []) read.1) in
-    let here : old.cursor ≡ at_start = h.cursor ∙ ap (λ ts. (told_of (initial s.base) ts).1) none in
-    let empty : ◌≡◌ {A = Step} (Ok ([], start)) (Ok (quads, old.stack)) = ap (λ ts. tell (told_of (initial s.base) ts).0 start) (sym none) ∙ h.told in
-    let stack_is : old.stack ≡ start = sym (second empty) in
-    number-brings (context_of old.context) t more stack n (ap (λ u. tell (events_step (context_of old.context) (events_of (t ∷ [])) u).0 start) (sym here) ∙ (ap (λ x. tell (events_step (context_of old.context) (events_of (t ∷ [])) old.cursor).0 x) (sym stack_is) ∙ e))
-  where
-    second : ◌≡◌ {A = Step} (Ok ([], start)) (Ok (quads, old.stack)) → start ≡ old.stack
-    second e = ap (λ x. x.1) (pair e)
-      where
-        pair : ◌≡◌ {A = Step} (Ok ([], start)) (Ok (quads, old.stack)) → ◌≡◌ {A = List Parts × StackState} ([], start) (quads, old.stack)
-        pair e = cc
+    let none : h.tokens ≡ [] = alone h.tokens t read.0 n (sym (walk-append h.tokens (t ∷ [])) ∙ read-events 0 bytes read.0 (h.tokens ++ t ∷ []) read.1) in
+    let here : at (start s) ≡ h.state = still-at-start s h.tokens h.said h.state none h.walked in
+    g.quads_are ∙ ap formed (number-brings s t g.said g.state n (ap (run s (walk_events (t ∷ []))) here ∙ g.goes))

@@ -1,5 +1,5 @@
 -- What a byte, a run of bytes and a piece add to what was read and put.
-use Rattle.std.proofs.Common.{ℕ, ◌+◌, ◌≤◌, ◌≡◌, refl, sym, ◌∙◌, ap, subst, Bool, true, false, cond, eqb, List, [], ◌∷◌, ◌++◌, length, filter, take, drop, Option, Some, None, Ok, Err, inl, inr, arith, append_assoc, append-nil, length-append}
+use Rattle.std.proofs.Common.{ℕ, ◌+◌, ◌≤◌, ◌≡◌, refl, sym, ◌∙◌, ap, subst, Bool, false, cond, eqb, List, [], ◌∷◌, ◌++◌, length, filter, take, drop, Option, Some, None, Ok, Err, inl, inr, arith, append_assoc, append-nil, length-append}
 use Rattle.std.proofs.lemmas.Bool.{cases_Bool, eqb-true, eqb-false}
 use Rattle.std.proofs.lemmas.List.{take-append-drop, take_all}
 use Rattle.std.proofs.lemmas.List.Elements.{filter-append}
@@ -15,42 +15,36 @@ use Rattle.jl_token.specs.declared.states.LexState.{LexState}
 use Rattle.jl_token.specs.declared.steps.LexStop.{LexStop}
 use Rattle.jl_token.specs.declared.steps.LexStop.TheVariants as lexing
 use Rattle.jl_token.proofs.LexerCalls.{relation}
-use Rattle.jl_defs.specs.Context.{initial}
+use Rattle.jl_defs.specs.Dataset.{dataset}
 use Rattle.jl_defs.specs.Settings.{Settings}
+use Rattle.jl_defs.specs.Sets.{SameSet}
 use Rattle.jl_context.specs.Contexts.{context_of}
-use Rattle.jl_frames.specs.declared.states.StackState.{StackState}
-use Rattle.jl_frames.specs.Streamed.{tell}
-use Rattle.jl_frames.specs.Machine.{Step}
-use Rattle.jl_frames.specs.Facts.{Fact}
-use Rattle.jl_frames.specs.Laws.{StreamRefuses, StreamSays}
-use Rattle.jl_engine.specs.Translation.{events_step}
-use Rattle.jl_engine.specs.TreeEvents.{events_of}
+use Rattle.jl_frames.specs.Formed.{formed}
+use Rattle.jl_walk.specs.Running.{run}
+use Rattle.jl_engine.specs.Keeping.{Keeps, StepsKeep}
+use Rattle.jl_engine.specs.Reading.{Read}
 use Rattle.jl_engine.specs.Standing.{Stands, AreSure, AreLeft, WerePut, Fed, Refusal, Cause, Stopped, Finished, EndRefusal, EndCause, StoppedAtEnd}
-use Rattle.jl_engine.specs.Saying.{StopsSaying}
+use Rattle.jl_engine.specs.Saying.{brought, StopsSaying}
 use Rattle.jl_engine.specs.Standing.Refusal.{by_text, by_length}
 use Rattle.jl_engine.specs.Standing.EndRefusal.{by_end}
 use Rattle.jl_engine.specs.declared.engines.EngineState.{EngineState}
 use Rattle.jl_engine.specs.declared.stops.Stop.{Stop}
 use Rattle.jl_engine.specs.declared.stops.Stop.TheVariants.{Refused, OutFault, NoMemory}
-use Rattle.jl_engine.proofs.Continuing.{told-more, told-stops}
-use Rattle.jl_engine.proofs.Consequences.{sure-longer, sure-front, sure-told, sure, faulty, faulty-end, finished}
+use Rattle.jl_engine.specs.declared.readers.Reader.{Reader}
+use Rattle.jl_engine.proofs.TokensOfTrees.{walk_events}
+use Rattle.jl_engine.proofs.Continuing.{EventsFit, walk-more, walk-stops}
+use Rattle.jl_engine.proofs.Consequences.{sure-longer, sure-front, sure-told, sure, faulty, faulty-end, finished, byte-agrees, end-agrees}
+use Rattle.jl_engine.proofs.Walked.{formed-append, Goes, reader-goes, reader-stops}
 
 -- ---- what was put
 
 -- two tests that say the same keep the same
-pub filter-same : (f g : Parts → Bool) → ((q : Parts) → g q ≡ f q) → (quads : List Parts) → filter g quads ≡ filter f quads
+filter-same : (f g : Parts → Bool) → ((q : Parts) → g q ≡ f q) → (quads : List Parts) → filter g quads ≡ filter f quads
 filter-same f g same [] = refl
 filter-same f g same (q ∷ quads) = ap (λ b. cond b (q ∷ filter g quads) (filter g quads)) (same q) ∙ ap (λ rest. cond (f q) (q ∷ rest) rest) (filter-same f g same quads)
 
 pub put-none : (told tells : List Parts → Type 0) (selects : Parts → Bool) → ((all : List Parts) → told all → tells all) → WerePut told tells selects []
 put-none told tells selects h all t = subst tells (sym (append-nil all)) (h all t)
-
-pub put-one : (told tells : List Parts → Type 0) (selects : Parts → Bool) (q : Parts) → ((all : List Parts) → told all → tells (cond (selects q) (all ++ q ∷ []) all)) → WerePut told tells selects (q ∷ [])
-put-one told tells selects q h =
-    elim (selects q) as (λ b. ((all : List Parts) → told all → tells (cond b (all ++ q ∷ []) all)) → (all : List Parts) → told all → tells (all ++ cond b (q ∷ []) [])) [
-      | true ↦ λ k. k
-      | false ↦ λ k all t. subst tells (sym (append-nil all)) (k all t)
-    ] h
 
 pub put-both : (t0 t1 t2 : List Parts → Type 0) (s0 s1 : Parts → Bool) (a b : List Parts) → ((q : Parts) → s1 q ≡ s0 q) → WerePut t0 t1 s0 a → WerePut t1 t2 s1 b → WerePut t0 t2 s0 (a ++ b)
 put-both t0 t1 t2 s0 s1 a b same h k all t =
@@ -73,15 +67,18 @@ fits p given l h f =
 -- a run of bytes that give no token
 pub run-stands : (s : Settings) (bytes : List ℕ) (quads : List Parts) (run : List ℕ) (old new : EngineState) → Stands s bytes quads old →
     ((place : ℕ) (p : List ℕ) (given : List Token) → lexed.Stands place p given old.lexer → lexed.Stands place (p ++ run) given new.lexer) →
-    new.lexer.ended ≡ false → new.context ≡ old.context → new.cursor ≡ old.cursor → new.stack ≡ old.stack → new.bytes ≡ old.bytes + length run → new.stopped ≡ None → new.ended ≡ false → Stands s (bytes ++ run) quads new
-run-stands s bytes quads run old new h runs live context cursor stack count goes going = record {
+    new.lexer.ended ≡ false → new.context ≡ old.context → new.reader ≡ old.reader → new.bytes ≡ old.bytes + length run → new.stopped ≡ None → new.ended ≡ false → Stands s (bytes ++ run) quads new
+run-stands s bytes quads run old new h runs live context reader count goes going = record {
   streaming = h.streaming;
   context = ap context_of context ∙ h.context;
   tokens = h.tokens;
   lexer = runs 0 bytes h.tokens h.lexer;
   live = live;
-  cursor = cursor ∙ h.cursor;
-  told = h.told ∙ ap (λ x. Ok (quads, x)) (sym stack);
+  said = h.said;
+  state = h.state;
+  walked = h.walked;
+  keeps = subst (Keeps s h.state) (sym reader) h.keeps;
+  quads_are = h.quads_are;
   count = count ∙ (ap (λ n. n + length run) h.count ∙ sym (length-append bytes run));
   goes_on = goes;
   going = going;
@@ -103,7 +100,7 @@ pub fed-none : (s : Settings) (bytes : List ℕ) (quads : List Parts) (e : Engin
 fed-none s bytes quads e told selects h = fed-run s bytes quads [] e told selects (subst (λ b. Stands s b quads e) (sym (append-nil bytes)) h)
 
 -- more of the piece was read
-pub fed-more : (s : Settings) (bytes : List ℕ) (quads : List Parts) (xs ys : List ℕ) (e1 e2 : EngineState) (t0 t1 t2 : List Parts → Type 0) (s0 s1 : Parts → Bool) → ((q : Parts) → s1 q ≡ s0 q) →
+fed-more : (s : Settings) (bytes : List ℕ) (quads : List Parts) (xs ys : List ℕ) (e1 e2 : EngineState) (t0 t1 t2 : List Parts → Type 0) (s0 s1 : Parts → Bool) → ((q : Parts) → s1 q ≡ s0 q) →
     (a : Fed s bytes quads xs e1 t0 t1 s0) → Fed s (bytes ++ xs) (quads ++ a.more) ys e2 t1 t2 s1 → Fed s bytes quads (xs ++ ys) e2 t0 t2 s0
 fed-more s bytes quads xs ys e1 e2 t0 t1 t2 s0 s1 same a b = record {
   more = a.more ++ b.more;
@@ -137,7 +134,7 @@ pub end-refused : (s : Settings) (bytes : List ℕ) (fault : Fault) → StopsAtE
 end-refused s bytes fault h = by_end h
 
 -- some of the piece was read, then a part behind it stopped the reading, and there are more bytes
-pub stopped-more : (s : Settings) (bytes : List ℕ) (quads : List Parts) (xs ys zs : List ℕ) (stop : Stop) (e1 e2 : EngineState) (t0 t1 t2 : List Parts → Type 0) (s0 s1 : Parts → Bool) → ((q : Parts) → s1 q ≡ s0 q) →
+stopped-more : (s : Settings) (bytes : List ℕ) (quads : List Parts) (xs ys zs : List ℕ) (stop : Stop) (e1 e2 : EngineState) (t0 t1 t2 : List Parts → Type 0) (s0 s1 : Parts → Bool) → ((q : Parts) → s1 q ≡ s0 q) →
     (a : Fed s bytes quads xs e1 t0 t1 s0) → Stopped s (bytes ++ xs) (quads ++ a.more) ys stop e2 t1 t2 s1 → Stopped s bytes quads (xs ++ (ys ++ zs)) stop e2 t0 t2 s0
 stopped-more s bytes quads xs ys zs stop e1 e2 t0 t1 t2 s0 s1 same a b =
     let front : (bytes ++ xs) ++ b.front ≡ bytes ++ (xs ++ b.front) = append_assoc bytes xs b.front in
@@ -173,60 +170,71 @@ part-stopped s bytes quads piece at stop e1 e2 t0 t1 t2 s0 s1 same a b =
     let whole : take at piece ++ (drop at piece ++ []) ≡ piece = ap (λ t. take at piece ++ t) (append-nil (drop at piece)) ∙ take-append-drop at piece in
     subst (λ p. Stopped s bytes quads p stop e2 t0 t2 s0) whole (stopped-more s bytes quads (take at piece) (drop at piece) [] stop e1 e2 t0 t1 t2 s0 s1 same a b)
 
--- ---- with the two laws of the stack
-module _ (says : StreamSays) (refuse : StreamRefuses) where
-  -- what is left where nothing of the byte was put
-  pub nothing-left : (s : Settings) (bytes : List ℕ) (quads : List Parts) (byte : ℕ) (stop : Stop) (old : EngineState) → Stands s bytes quads old → AreLeft s (bytes ++ byte ∷ []) (quads ++ []) stop
-  nothing-left s bytes quads byte (Refused f) old h =
-      record { front = bytes; byte = byte; bytes_are = refl; said = (old, subst (λ q. Stands s bytes q old) (sym (append-nil quads)) h) }
-  nothing-left s bytes quads byte OutFault old h = subst (λ q. AreSure s (bytes ++ byte ∷ []) q) (sym (append-nil quads)) (sure-longer s bytes (byte ∷ []) quads (sure says refuse s bytes quads old h))
-  nothing-left s bytes quads byte NoMemory old h = subst (λ q. AreSure s (bytes ++ byte ∷ []) q) (sym (append-nil quads)) (sure-longer s bytes (byte ∷ []) quads (sure says refuse s bytes quads old h))
+-- ---- a byte that stops the reading
 
-  -- nothing of the byte was put
-  pub byte-stopped : (s : Settings) (bytes : List ℕ) (quads : List Parts) (byte : ℕ) (stop : Stop) (old new : EngineState) (told : List Parts → Type 0) (selects : Parts → Bool) → Stands s bytes quads old →
-      new.bytes ≡ old.bytes + 1 → Cause s (bytes ++ byte ∷ []) stop → Stopped s bytes quads (byte ∷ []) stop new told told selects
-  byte-stopped s bytes quads byte stop old new told selects h count cause = record {
-    front = byte ∷ [];
-    back = [];
-    piece_is = refl;
-    count = count ∙ (ap (λ n. n + 1) h.count ∙ sym (length-append bytes (byte ∷ [])));
-    more = [];
-    left = nothing-left s bytes quads byte stop old h;
-    put = put-none told told selects (λ all t. t);
-    cause = cause;
-  }
+-- what is left where nothing of the byte was put
+pub nothing-left : (s : Settings) (bytes : List ℕ) (quads : List Parts) (byte : ℕ) (stop : Stop) (old : EngineState) → Stands s bytes quads old → AreLeft s (bytes ++ byte ∷ []) (quads ++ []) stop
+nothing-left s bytes quads byte (Refused f) old h =
+    record { front = bytes; byte = byte; bytes_are = refl; said = (old, subst (λ q. Stands s bytes q old) (sym (append-nil quads)) h) }
+nothing-left s bytes quads byte OutFault old h = subst (λ q. AreSure s (bytes ++ byte ∷ []) q) (sym (append-nil quads)) (sure-longer s bytes (byte ∷ []) quads (sure s bytes quads old h))
+nothing-left s bytes quads byte NoMemory old h = subst (λ q. AreSure s (bytes ++ byte ∷ []) q) (sym (append-nil quads)) (sure-longer s bytes (byte ∷ []) quads (sure s bytes quads old h))
 
-  -- a fact of the byte's tokens is at fault
-  pub facts-refused : (s : Settings) (bytes : List ℕ) (quads : List Parts) (byte : ℕ) (tokens : List Token) (fault : Fault) (old : EngineState) (lexer : LexState) → Stands s bytes quads old → lexed.Takes old.lexer lexer byte tokens →
-      tell (events_step (context_of old.context) (events_of tokens) old.cursor).0 old.stack ≡ Err fault → Refusal s (bytes ++ byte ∷ []) fault
-  facts-refused s bytes quads byte tokens fault old lexer h takes e =
-      faulty refuse s (bytes ++ byte ∷ []) (h.tokens ++ tokens) fault h.streaming (relation 0 (bytes ++ byte ∷ []) (h.tokens ++ tokens) lexer (takes 0 bytes h.tokens h.lexer))
-      (told-stops (initial s.base) h.tokens tokens old.cursor quads old.stack fault h.cursor h.told (ap (λ x. tell (events_step x (events_of tokens) old.cursor).0 old.stack) (sym h.context) ∙ e))
+-- nothing of the byte was put
+pub byte-stopped : (s : Settings) (bytes : List ℕ) (quads : List Parts) (byte : ℕ) (stop : Stop) (old new : EngineState) (told : List Parts → Type 0) (selects : Parts → Bool) → Stands s bytes quads old →
+    new.bytes ≡ old.bytes + 1 → Cause s (bytes ++ byte ∷ []) stop → Stopped s bytes quads (byte ∷ []) stop new told told selects
+byte-stopped s bytes quads byte stop old new told selects h count cause = record {
+  front = byte ∷ [];
+  back = [];
+  piece_is = refl;
+  count = count ∙ (ap (λ n. n + 1) h.count ∙ sym (length-append bytes (byte ∷ [])));
+  more = [];
+  left = nothing-left s bytes quads byte stop old h;
+  put = put-none told told selects (λ all t. t);
+  cause = cause;
+}
 
-  -- facts that are told aren't refused, so only the out or memory stopped what they say
-  some-left : (s : Settings) (bytes : List ℕ) (quads : List Parts) (stop : Stop) (told_quads : List Parts) (stack : StackState) (facts : List Fact) (old : StackState) → AreSure s bytes quads →
-      tell facts old ≡ Ok (told_quads, stack) → StopsSaying facts old stop → AreLeft s bytes quads stop
-  some-left s bytes quads (Refused f) told_quads stack facts old h e stops = absurd (let no : ◌≡◌ {A = Step} (Ok (told_quads, stack)) (Err f) = sym e ∙ stops in cc)
-  some-left s bytes quads OutFault told_quads stack facts old h e stops = h
-  some-left s bytes quads NoMemory told_quads stack facts old h e stops = h
+-- what is brought isn't refused, so only the out or memory stopped it
+some-left : (s : Settings) (bytes : List ℕ) (quads : List Parts) (stop : Stop) (more : List Parts) (new : Reader) (read : Read) → AreSure s bytes quads →
+    read ≡ Ok (more, new) → StopsSaying read stop → AreLeft s bytes quads stop
+some-left s bytes quads (Refused f) more new read h e stops = absurd (let no : ◌≡◌ {A = Read} (Ok (more, new)) (Err f) = sym e ∙ stops in cc)
+some-left s bytes quads OutFault more new read h e stops = h
+some-left s bytes quads NoMemory more new read h e stops = h
+
+-- the reader goes over events as the walk does, and the events of tokens fit
+module _ (keep : StepsKeep) (fit : EventsFit) where
+  -- what the byte's tokens bring
+  pub byte-goes : (s : Settings) (bytes : List ℕ) (quads : List Parts) (byte : ℕ) (tokens : List Token) (more : List Parts) (old : EngineState) (lexer : LexState) (new : Reader) → (h : Stands s bytes quads old) → lexed.Takes old.lexer lexer byte tokens →
+      brought old tokens ≡ Ok (more, new) → Goes s (run s (walk_events tokens) h.state) more new
+  byte-goes s bytes quads byte tokens more old lexer new h takes e =
+      let front = relation 0 (bytes ++ byte ∷ []) (h.tokens ++ tokens) lexer (takes 0 bytes h.tokens h.lexer) in
+      reader-goes s (run s (walk_events tokens) h.state) (brought old tokens) more new (byte-agrees keep fit s bytes quads old byte tokens h front) e
+
+  -- an event of the byte's tokens is at fault
+  pub events-refused : (s : Settings) (bytes : List ℕ) (quads : List Parts) (byte : ℕ) (tokens : List Token) (fault : Fault) (old : EngineState) (lexer : LexState) → Stands s bytes quads old → lexed.Takes old.lexer lexer byte tokens →
+      brought old tokens ≡ Err fault → Refusal s (bytes ++ byte ∷ []) fault
+  events-refused s bytes quads byte tokens fault old lexer h takes e =
+      let front = relation 0 (bytes ++ byte ∷ []) (h.tokens ++ tokens) lexer (takes 0 bytes h.tokens h.lexer) in
+      let stops = reader-stops s (run s (walk_events tokens) h.state) (brought old tokens) fault (byte-agrees keep fit s bytes quads old byte tokens h front) e in
+      faulty s (bytes ++ byte ∷ []) (h.tokens ++ tokens) fault h.streaming front (walk-stops s h.tokens tokens h.said h.state fault h.walked stops)
 
   -- some of the byte's quads were put
-  pub puts-stopped : (s : Settings) (bytes : List ℕ) (quads : List Parts) (byte : ℕ) (tokens : List Token) (front back : List Parts) (stop : Stop) (old new : EngineState) (lexer : LexState) (stack : StackState) (told tells : List Parts → Type 0) (selects : Parts → Bool) →
-      Stands s bytes quads old → lexed.Takes old.lexer lexer byte tokens → tell (events_step (context_of old.context) (events_of tokens) old.cursor).0 old.stack ≡ Ok (front ++ back, stack) →
-      new.bytes ≡ old.bytes + 1 → WerePut told tells selects front → Cause s (bytes ++ byte ∷ []) stop → StopsSaying (events_step (context_of old.context) (events_of tokens) old.cursor).0 old.stack stop →
-      Stopped s bytes quads (byte ∷ []) stop new told tells selects
-  puts-stopped s bytes quads byte tokens front back stop old new lexer stack told tells selects h takes e count put cause stops =
-      let all = told-more (initial s.base) h.tokens tokens old.cursor quads (front ++ back) old.stack stack h.cursor h.told (ap (λ x. tell (events_step x (events_of tokens) old.cursor).0 old.stack) (sym h.context) ∙ e) in
+  pub puts-stopped : (s : Settings) (bytes : List ℕ) (quads : List Parts) (byte : ℕ) (tokens : List Token) (front back : List Parts) (stop : Stop) (old new : EngineState) (lexer : LexState) (reader : Reader) (told tells : List Parts → Type 0) (selects : Parts → Bool) →
+      Stands s bytes quads old → lexed.Takes old.lexer lexer byte tokens → brought old tokens ≡ Ok (front ++ back, reader) → new.bytes ≡ old.bytes + 1 → WerePut told tells selects front → Cause s (bytes ++ byte ∷ []) stop →
+      StopsSaying (brought old tokens) stop → Stopped s bytes quads (byte ∷ []) stop new told tells selects
+  puts-stopped s bytes quads byte tokens front back stop old new lexer reader told tells selects h takes e count put cause stops =
+      let g = byte-goes s bytes quads byte tokens (front ++ back) old lexer reader h takes e in
+      let all = walk-more s h.tokens tokens h.said g.said h.state g.state h.walked g.goes in
+      let same : formed (h.said ++ g.said) ≡ (quads ++ front) ++ back = formed-append h.said g.said ∙ (ap (λ q. q ++ formed g.said) (sym h.quads_are) ∙ (ap (λ q. quads ++ q) (sym g.quads_are) ∙ sym (append_assoc quads front back))) in
       record {
         front = byte ∷ [];
         back = [];
         piece_is = refl;
         count = count ∙ (ap (λ n. n + 1) h.count ∙ sym (length-append bytes (byte ∷ [])));
         more = front;
-        left = some-left s (bytes ++ byte ∷ []) (quads ++ front) stop (front ++ back) stack _ old.stack
+        left = some-left s (bytes ++ byte ∷ []) (quads ++ front) stop (front ++ back) reader (brought old tokens)
             (sure-front s (bytes ++ byte ∷ []) (quads ++ front) back
-            (subst (λ q. AreSure s (bytes ++ byte ∷ []) q) (sym (append_assoc quads front back))
-            (sure-told says refuse s (bytes ++ byte ∷ []) (h.tokens ++ tokens) (quads ++ (front ++ back)) stack h.streaming (relation 0 (bytes ++ byte ∷ []) (h.tokens ++ tokens) lexer (takes 0 bytes h.tokens h.lexer)) all)))
+            (subst (λ q. AreSure s (bytes ++ byte ∷ []) q) same
+            (sure-told s (bytes ++ byte ∷ []) (h.tokens ++ tokens) (h.said ++ g.said) g.state h.streaming (relation 0 (bytes ++ byte ∷ []) (h.tokens ++ tokens) lexer (takes 0 bytes h.tokens h.lexer)) all)))
             e stops;
         put = put;
         cause = cause;
@@ -234,39 +242,47 @@ module _ (says : StreamSays) (refuse : StreamRefuses) where
 
   -- ---- the end
 
-  -- the last token was told, and its quads were put
-  pub ended : (s : Settings) (bytes : List ℕ) (quads : List Parts) (token : Option Token) (more : List Parts) (old : EngineState) (stack : StackState) (told tells : List Parts → Type 0) (selects : Parts → Bool) →
-      Stands s bytes quads old → Ends old.lexer token → tell (events_step (context_of old.context) (events_of (option_to_list token)) old.cursor).0 old.stack ≡ Ok (more, stack) → WerePut told tells selects more →
-      AreSure s bytes (quads ++ more) → Finished s bytes quads told tells selects
-  ended s bytes quads token more old stack told tells selects h ends e put sure_all =
+  -- what the token that the end completes brings
+  pub end-goes : (s : Settings) (bytes : List ℕ) (quads : List Parts) (token : Option Token) (more : List Parts) (old : EngineState) (new : Reader) → (h : Stands s bytes quads old) → Ends old.lexer token →
+      brought old (option_to_list token) ≡ Ok (more, new) → Goes s (run s (walk_events (option_to_list token)) h.state) more new
+  end-goes s bytes quads token more old new h ends e =
       let read = ends 0 bytes h.tokens h.lexer in
-      let all = told-more (initial s.base) h.tokens (option_to_list token) old.cursor quads more old.stack stack h.cursor h.told (ap (λ x. tell (events_step x (events_of (option_to_list token)) old.cursor).0 old.stack) (sym h.context) ∙ e) in
-      let said = finished says s bytes read.0 (h.tokens ++ option_to_list token) (quads ++ more) stack h.streaming read.1 all in
+      reader-goes s (run s (walk_events (option_to_list token)) h.state) (brought old (option_to_list token)) more new (end-agrees keep fit s bytes quads old (option_to_list token) read.0 h read.1) e
+
+  -- the last token went, and its quads were put
+  pub ended : (s : Settings) (bytes : List ℕ) (quads : List Parts) (token : Option Token) (more : List Parts) (old : EngineState) (new : Reader) (told tells : List Parts → Type 0) (selects : Parts → Bool) →
+      Stands s bytes quads old → Ends old.lexer token → brought old (option_to_list token) ≡ Ok (more, new) → WerePut told tells selects more → AreSure s bytes (quads ++ more) → Finished s bytes quads told tells selects
+  ended s bytes quads token more old new told tells selects h ends e put sure_all =
+      let read = ends 0 bytes h.tokens h.lexer in
+      let g = end-goes s bytes quads token more old new h ends e in
+      let all = walk-more s h.tokens (option_to_list token) h.said g.said h.state g.state h.walked g.goes in
+      let same : formed (h.said ++ g.said) ≡ quads ++ more = formed-append h.said g.said ∙ (ap (λ q. q ++ formed g.said) (sym h.quads_are) ∙ ap (λ q. quads ++ q) (sym g.quads_are)) in
+      let said = finished s bytes read.0 (h.tokens ++ option_to_list token) (h.said ++ g.said) g.state h.streaming read.1 all in
       record {
         more = more;
         tree = read.0;
         reads = (h.tokens ++ option_to_list token, read.1);
         accepted = said.accepted;
         built = said.built;
-        quads_are = said.quads_are;
+        quads_are = subst (λ q. SameSet q (dataset s read.0)) same said.quads_are;
         sure = sure_all;
         put = put;
       }
 
-  -- nothing was put at the end
-  pub end-stopped : (s : Settings) (bytes : List ℕ) (quads : List Parts) (stop : Stop) (old : EngineState) (told : List Parts → Type 0) (selects : Parts → Bool) → Stands s bytes quads old → EndCause s bytes stop →
-      StoppedAtEnd s bytes quads stop told told selects
-  end-stopped s bytes quads stop old told selects h cause = record {
-    more = [];
-    said = (old, subst (λ q. Stands s bytes q old) (sym (append-nil quads)) h);
-    put = put-none told told selects (λ all t. t);
-    cause = cause;
-  }
-
-  -- a fact of the last token is at fault
-  pub end-facts-refused : (s : Settings) (bytes : List ℕ) (quads : List Parts) (token : Option Token) (fault : Fault) (old : EngineState) → Stands s bytes quads old → Ends old.lexer token →
-      tell (events_step (context_of old.context) (events_of (option_to_list token)) old.cursor).0 old.stack ≡ Err fault → EndRefusal s bytes fault
-  end-facts-refused s bytes quads token fault old h ends e =
+  -- an event of the last token is at fault
+  pub end-events-refused : (s : Settings) (bytes : List ℕ) (quads : List Parts) (token : Option Token) (fault : Fault) (old : EngineState) → Stands s bytes quads old → Ends old.lexer token →
+      brought old (option_to_list token) ≡ Err fault → EndRefusal s bytes fault
+  end-events-refused s bytes quads token fault old h ends e =
       let read = ends 0 bytes h.tokens h.lexer in
-      faulty-end refuse s bytes read.0 (h.tokens ++ option_to_list token) fault h.streaming read.1
-      (told-stops (initial s.base) h.tokens (option_to_list token) old.cursor quads old.stack fault h.cursor h.told (ap (λ x. tell (events_step x (events_of (option_to_list token)) old.cursor).0 old.stack) (sym h.context) ∙ e))
+      let stops = reader-stops s (run s (walk_events (option_to_list token)) h.state) (brought old (option_to_list token)) fault (end-agrees keep fit s bytes quads old (option_to_list token) read.0 h read.1) e in
+      faulty-end s bytes read.0 (h.tokens ++ option_to_list token) fault h.streaming read.1 (walk-stops s h.tokens (option_to_list token) h.said h.state fault h.walked stops)
+
+-- nothing was put at the end
+pub end-stopped : (s : Settings) (bytes : List ℕ) (quads : List Parts) (stop : Stop) (old : EngineState) (told : List Parts → Type 0) (selects : Parts → Bool) → Stands s bytes quads old → EndCause s bytes stop →
+    StoppedAtEnd s bytes quads stop told told selects
+end-stopped s bytes quads stop old told selects h cause = record {
+  more = [];
+  said = (old, subst (λ q. Stands s bytes q old) (sym (append-nil quads)) h);
+  put = put-none told told selects (λ all t. t);
+  cause = cause;
+}

@@ -1,55 +1,42 @@
 -- What is said for some tokens, and how much of it is put.
-use Rattle.std.proofs.Common.{◌≡◌, ℕ, ◌+◌, ◌<◌, Bool, List, [], ◌∷◌, ◌++◌, length, take, drop, get_or, inl, inr, Ok, Err, refl, sym, ap, ◌∙◌, subst, append_assoc, append-nil}
+use Rattle.std.proofs.Common.{◌≡◌, ℕ, ◌+◌, ◌<◌, Bool, List, [], ◌∷◌, ◌++◌, length, take, drop, get_or, inl, inr, Result, Ok, Err, refl, sym, ap, ◌∙◌, subst, append_assoc, append-nil}
 use Rattle.std.proofs.lemmas.List.{take_more, take-append-drop}
 use Rattle.jl_model.specs.Parts.{Parts}
+use Rattle.jl_model.specs.declared.tokens.Token.{Token}
 use Rattle.jl_frames.specs.Answers.{HasCause}
-use Rattle.jl_frames.specs.Facts.{Fact, step}
-use Rattle.jl_frames.specs.Machine.{Step}
-use Rattle.jl_frames.specs.Streamed.{tell, then_tell}
 use Rattle.jl_frames.specs.declared.states.FrameStop.{FrameStop}
 use Rattle.jl_frames.specs.declared.states.FrameStop.TheVariants as framing
-use Rattle.jl_frames.specs.declared.states.StackState.{StackState}
-use Rattle.jl_engine.specs.Gathers.{then_gathers, behind, gather}
-use Rattle.jl_engine.specs.Saying.{PutSome, Says, SaysSome, StopsSaying}
+use Rattle.jl_engine.specs.Reading.{Read, before}
+use Rattle.jl_engine.specs.Putting.{PutSome, Puts}
+use Rattle.jl_engine.specs.Saying.{brought, Tells, SaysSome, StopsSaying, SaysBy, SaysTo}
 use Rattle.jl_engine.specs.Standing.{WerePut}
-use Rattle.jl_engine.specs.Stops.{IsOutside, of_facts}
+use Rattle.jl_engine.specs.Stops.{IsOutside, of_reader}
+use Rattle.jl_engine.specs.TreeEvents.{events_of}
+use Rattle.jl_engine.specs.declared.engines.EngineState.{EngineState}
+use Rattle.jl_engine.specs.declared.readers.Reader.{Reader}
 use Rattle.jl_engine.specs.declared.stops.Stop.{Stop}
 use Rattle.jl_engine.specs.declared.stops.Stop.TheVariants.{Refused, OutFault, NoMemory}
 use Rattle.jl_engine.proofs.Feeding.{put-none, put-both}
 
--- ---- what is gathered is what is told
+-- ---- no quads come before what is read
 
-behind_step : (quads : List Parts) (r : Step) (rest : List Parts → StackState → Step) (next : StackState → Step) → ((more : List Parts) (s : StackState) → rest more s ≡ behind more (next s))
-    → then_gathers (behind quads r) rest ≡ behind quads (then_tell r next)
-behind_step quads (Ok (more, s)) rest next same = same (quads ++ more) s ∙ twice (next s)
-  where
-    twice : (r : Step) → behind (quads ++ more) r ≡ behind quads (then_tell (Ok (more, s)) (λ x. r))
-    twice (Ok (last, t)) = ap (λ q. Ok (q, t)) (append_assoc quads more last)
-    twice (Err f) = refl
-behind_step quads (Err f) rest next same = refl
+before_none : (read : Read) → before [] read ≡ read
+before_none (Ok (quads, r)) = refl
+before_none (Err f) = refl
 
-pub gather_behind : (facts : List Fact) (quads : List Parts) (s : StackState) → gather facts quads s ≡ behind quads (tell facts s)
-unfolding gather tell
-gather_behind [] quads s = ap (λ q. Ok (q, s)) (sym (append-nil quads))
-gather_behind (f ∷ fs) quads s = behind_step quads (step f s) (gather fs) (tell fs) (gather_behind fs)
-
-behind_nothing : (r : Step) → behind [] r ≡ r
-behind_nothing (Ok (quads, s)) = refl
-behind_nothing (Err f) = refl
-
-pub gather_tell : (facts : List Fact) (quads : List Parts) (s : StackState) → quads ≡ [] → gather facts quads s ≡ tell facts s
-gather_tell facts quads s none = ap (λ q. gather facts q s) none ∙ gather_behind facts [] s ∙ behind_nothing (tell facts s)
+none_before : (none : List Parts) (read : Read) → none ≡ [] → before none read ≡ read
+none_before none read empty = ap (λ q. before q read) empty ∙ before_none read
 
 -- ---- stops
 
-pub facts_stop : (why : FrameStop) (facts : List Fact) (quads : List Parts) (s : StackState) → quads ≡ [] → HasCause why (gather facts quads s) → StopsSaying facts s (of_facts why)
-facts_stop (framing.Refused f) facts quads s none h = sym (gather_tell facts quads s none) ∙ h
-facts_stop framing.NoMemory facts quads s none h = tt
+read_stops : (why : FrameStop) (read : Read) → HasCause why read → StopsSaying read (of_reader why)
+read_stops (framing.Refused f) read h = h
+read_stops framing.NoMemory read h = tt
 
-pub outside_stops : (stop : Stop) (facts : List Fact) (s : StackState) → IsOutside stop → StopsSaying facts s stop
-outside_stops (Refused f) facts s h = absurd h
-outside_stops OutFault facts s h = tt
-outside_stops NoMemory facts s h = tt
+outside_stops : (stop : Stop) (read : Read) → IsOutside stop → StopsSaying read stop
+outside_stops (Refused f) read h = absurd h
+outside_stops OutFault read h = tt
+outside_stops NoMemory read h = tt
 
 -- ---- quads
 
@@ -68,11 +55,7 @@ some_of told now later selects mid quads n same a b =
       put = subst (WerePut told later selects) (append-nil (take n quads)) (put-both told now later selects mid (take n quads) [] same a b);
     }
 
-pub some_first : (told later : List Parts → Type 0) (selects : Parts → Bool) (all xs ys : List Parts) → all ≡ xs ++ ys → PutSome told later selects xs → PutSome told later selects all
-some_first told later selects all xs ys is h =
-    record { front = h.front; back = h.back ++ ys; quads_are = is ∙ ap (λ x. x ++ ys) h.quads_are ∙ append_assoc h.front h.back ys; put = h.put }
-
-pub some_then : (told now later : List Parts → Type 0) (selects mid : Parts → Bool) (all xs ys : List Parts) → all ≡ xs ++ ys → ((p : Parts) → mid p ≡ selects p) → WerePut told now selects xs → PutSome now later mid ys → PutSome told later selects all
+some_then : (told now later : List Parts → Type 0) (selects mid : Parts → Bool) (all xs ys : List Parts) → all ≡ xs ++ ys → ((p : Parts) → mid p ≡ selects p) → WerePut told now selects xs → PutSome now later mid ys → PutSome told later selects all
 some_then told now later selects mid all xs ys is same a b =
     record {
       front = xs ++ b.front;
@@ -81,16 +64,37 @@ some_then told now later selects mid all xs ys is same a b =
       put = put-both told now later selects mid xs b.front same a b.put;
     }
 
+-- the others were put, or some of them
+pub put_then : {Out : Type 0} (r : Result (Unit {0}) Stop) (tells : Out → List Parts → Type 0) (selects : Out → Parts → Bool) (out between later : Out) (all xs ys : List Parts) → all ≡ xs ++ ys → ((p : Parts) → selects between p ≡ selects out p) →
+    WerePut (tells out) (tells between) (selects out) xs → Puts r ys tells selects between later → Puts r all tells selects out later
+put_then (Ok x) tells selects out between later all xs ys is same a b =
+    subst (WerePut (tells out) (tells later) (selects out)) (sym is) (put-both (tells out) (tells between) (tells later) (selects out) (selects between) xs ys same a b)
+put_then (Err stop) tells selects out between later all xs ys is same a b =
+    (some_then (tells out) (tells between) (tells later) (selects out) (selects between) all xs ys is same a b.0, b.1)
+
 -- ---- what was said
 
-pub said_all : (facts : List Fact) (old new : StackState) (none quads : List Parts) (told later : List Parts → Type 0) (selects : Parts → Bool) → none ≡ [] → gather facts none old ≡ Ok (quads, new)
-    → WerePut told later selects quads → Says facts old new told later selects
-said_all facts old new none quads told later selects empty e put = record { more = quads; told_is = sym (gather_tell facts none old empty) ∙ e; put = put }
+said_nothing : (read : Read) (told : List Parts → Type 0) (selects : Parts → Bool) → SaysSome read told told selects
+said_nothing read told selects = record { front = []; first = inl refl; put = put-none told told selects (λ all t. t) }
 
-pub said_some : (facts : List Fact) (old new : StackState) (none quads : List Parts) (told later : List Parts → Type 0) (selects : Parts → Bool) → none ≡ [] → gather facts none old ≡ Ok (quads, new)
-    → PutSome told later selects quads → SaysSome facts old told later selects
-said_some facts old new none quads told later selects empty e put =
-    record { front = put.front; first = inr (put.back, new, sym (gather_tell facts none old empty) ∙ e ∙ ap (λ q. Ok (q, new)) put.quads_are); put = put.put }
+said_by : {Out : Type 0} (r : Result (Unit {0}) Stop) (read : Read) (new : Reader) (quads : List Parts) (tells : Out → List Parts → Type 0) (selects : Out → Parts → Bool) (out later : Out) → read ≡ Ok (quads, new) →
+    Puts r quads tells selects out later → SaysBy r read new (tells out) (tells later) (selects out)
+said_by (Ok x) read new quads tells selects out later e put = record { more = quads; read_is = e; put = put }
+said_by (Err stop) read new quads tells selects out later e (put, outside) =
+    (record { front = put.front; first = inr (put.back, new, e ∙ ap (λ q. Ok (q, new)) put.quads_are); put = put.put }, outside_stops stop read outside)
 
-pub said_nothing : (facts : List Fact) (old : StackState) (told : List Parts → Type 0) (selects : Parts → Bool) → SaysSome facts old told told selects
-said_nothing facts old told selects = record { front = []; first = inl refl; put = put-none told told selects (λ all t. t) }
+-- what was told to the engine was put, or some of it
+pub says_told : {Out : Type 0} (r : Result (Unit {0}) Stop) (tokens : List Token) (old new : EngineState) (none quads : List Parts) (tells : Out → List Parts → Type 0) (selects : Out → Parts → Bool) (out later : Out) → none ≡ [] →
+    Tells (Ok tt) (events_of tokens) none quads old new → Puts r quads tells selects out later → SaysTo r tokens old new tells selects out later
+says_told r tokens old new none quads tells selects out later empty h put = record {
+  says = said_by r (brought old tokens) new.reader quads tells selects out later (sym (none_before none (brought old tokens) empty) ∙ h.reads) put;
+  kept = h.kept;
+}
+
+-- the reader stopped, and nothing was put
+pub says_none : {Out : Type 0} (why : FrameStop) (stop : Stop) (tokens : List Token) (old new : EngineState) (none quads : List Parts) (tells : Out → List Parts → Type 0) (selects : Out → Parts → Bool) (out : Out) → stop ≡ of_reader why →
+    Tells (Err why) (events_of tokens) none quads old new → SaysTo (Err stop) tokens old new tells selects out out
+says_none why stop tokens old new none quads tells selects out same h = record {
+  says = (said_nothing (brought old tokens) (tells out) (selects out), subst (StopsSaying (brought old tokens)) (sym same) (read_stops why (brought old tokens) h.reads));
+  kept = h.kept;
+}

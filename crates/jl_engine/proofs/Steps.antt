@@ -1,45 +1,123 @@
 -- The tokens of a byte, one after another.
-use Rattle.std.proofs.Common.{◌≡◌, ℕ, ◌+◌, ◌-◌, ◌^◌, ◌≤◌, min, List, [], ◌∷◌, ◌++◌, length, take, Ok, sym, ap, ◌∙◌, subst, arith, length-append}
+use Rattle.std.proofs.Common.{◌≡◌, ℕ, ◌+◌, ◌-◌, ◌^◌, ◌≤◌, min, List, [], ◌∷◌, ◌++◌, length, take, Result, Ok, Err, refl, sym, ap, ◌∙◌, subst, arith, append_assoc, append-nil, length-append}
 use Rattle.std.proofs.lemmas.List.{length-take}
 use Rattle.jl_model.specs.Parts.{Parts}
+use Rattle.jl_model.specs.declared.faults.Fault.{Fault}
 use Rattle.jl_model.specs.declared.tokens.Token.{Token}
 use Rattle.jl_token.specs.Lexed as lexed
 use Rattle.jl_token.specs.declared.states.LexState.{LexState}
 use Rattle.jl_defs.specs.Context.{Context}
+use Rattle.jl_context.specs.Contexts.{context_of}
 use Rattle.jl_frames.specs.Answers.{HasCause}
 use Rattle.jl_frames.specs.declared.states.FrameStop.{FrameStop}
-use Rattle.jl_frames.specs.declared.states.StackState.{StackState}
-use Rattle.jl_engine.specs.Gathers.{gather}
-use Rattle.jl_engine.specs.Translation.{events_step, then_told}
+use Rattle.jl_frames.specs.declared.states.FrameStop.TheVariants as framing
+use Rattle.jl_engine.specs.Reading.{Read, still, before, then_reads, step, steps, Reads}
+use Rattle.jl_engine.specs.Saying.{brings, Tells}
 use Rattle.jl_engine.specs.TreeEvents.{events_of}
-use Rattle.jl_engine.specs.declared.cursors.Cursor.{Cursor}
-use Rattle.jl_engine.proofs.Gathering.{gather_on, stops_first}
+use Rattle.jl_engine.specs.declared.engines.EngineState.{EngineState}
+use Rattle.jl_engine.specs.declared.events.Event.{Event}
+use Rattle.jl_engine.specs.declared.readers.Reader.{Reader}
 use Rattle.jl_engine.proofs.TokensOfTrees.{events-of-append}
-use Rattle.jl_engine.proofs.DecidedTrees.{events-append}
 
-tokens_both : (c : Context) (xs ys : List Token) (u : Cursor) → events_step c (events_of (xs ++ ys)) u ≡ then_told (events_step c (events_of xs) u).0 (events_step c (events_of ys) (events_step c (events_of xs) u).1)
-tokens_both c xs ys u = ap (λ es. events_step c es u) (events-of-append xs ys) ∙ events-append c (events_of xs) (events_of ys) u
+-- ---- steps, one after another
 
-pub tokens_on : (c d : Context) (xs ys zs : List Token) (u at : Cursor) (quads more : List Parts) (s next : StackState) → d ≡ c → zs ≡ ys → at ≡ (events_step c (events_of xs) u).1
-    → gather (events_step c (events_of xs) u).0 quads s ≡ Ok (more, next) → gather (events_step c (events_of (xs ++ ys)) u).0 quads s ≡ gather (events_step d (events_of zs) at).0 more next
-tokens_on c d xs ys zs u at quads more s next same tokens is e =
-    ap (λ t. gather t.0 quads s) (tokens_both c xs ys u)
-    ∙ gather_on (events_step c (events_of xs) u).0 (events_step c (events_of ys) (events_step c (events_of xs) u).1).0 quads more s next e
-    ∙ ap (λ w. gather (events_step c (events_of ys) w).0 more next) (sym is)
-    ∙ ap (λ w. gather (events_step w (events_of ys) at).0 more next) (sym same)
-    ∙ ap (λ w. gather (events_step d (events_of w) at).0 more next) (sym tokens)
+before-twice : (a b : List Parts) (t : Read) → before a (before b t) ≡ before (a ++ b) t
+before-twice a b (Ok (q, r)) = ap (λ x. Ok (x, r)) (sym (append_assoc a b q))
+before-twice a b (Err f) = refl
 
-pub tokens_behind : (c d : Context) (xs ys zs : List Token) (u at : Cursor) → d ≡ c → zs ≡ ys → at ≡ (events_step c (events_of xs) u).1 → (events_step c (events_of (xs ++ ys)) u).1 ≡ (events_step d (events_of zs) at).1
-tokens_behind c d xs ys zs u at same tokens is =
-    ap (λ t. t.1) (tokens_both c xs ys u)
-    ∙ ap (λ w. (events_step c (events_of ys) w).1) (sym is)
-    ∙ ap (λ w. (events_step w (events_of ys) at).1) (sym same)
-    ∙ ap (λ w. (events_step d (events_of w) at).1) (sym tokens)
+then-before : (a : List Parts) (t : Read) (next : Reader → Read) → then_reads (before a t) next ≡ before a (then_reads t next)
+then-before a (Ok (q, r)) next = sym (before-twice a q (next r))
+then-before a (Err f) next = refl
 
-pub tokens_stop : (c : Context) (xs ys : List Token) (u : Cursor) (quads : List Parts) (s : StackState) (why : FrameStop)
-    → HasCause why (gather (events_step c (events_of xs) u).0 quads s) → HasCause why (gather (events_step c (events_of (xs ++ ys)) u).0 quads s)
-tokens_stop c xs ys u quads s why h =
-    subst (λ t. HasCause why (gather t.0 quads s)) (sym (tokens_both c xs ys u)) (stops_first (events_step c (events_of xs) u).0 (events_step c (events_of ys) (events_step c (events_of xs) u).1).0 quads s why h)
+then-then : (t : Read) (f g : Reader → Read) → then_reads (then_reads t f) g ≡ then_reads t (λ r. then_reads (f r) g)
+then-then (Ok (q, r)) f g = then-before q (f r) g
+then-then (Err e) f g = refl
+
+then-same : (t : Read) (f g : Reader → Read) → ((r : Reader) → f r ≡ g r) → then_reads t f ≡ then_reads t g
+then-same (Ok (q, r)) f g h = ap (before q) (h r)
+then-same (Err e) f g h = refl
+
+then-still : (t : Read) → then_reads t still ≡ t
+then-still (Ok (q, r)) = ap (λ x. Ok (x, r)) (append-nil q)
+then-still (Err f) = refl
+
+before-none : (t : Read) → before [] t ≡ t
+before-none (Ok (q, r)) = refl
+before-none (Err f) = refl
+
+steps-append : (c : Context) (xs ys : List Event) (r : Reader) → steps c (xs ++ ys) r ≡ then_reads (steps c xs r) (steps c ys)
+unfolding steps
+steps-append c [] ys r = sym (before-none (steps c ys r))
+steps-append c (e ∷ es) ys r =
+    then-same (step c e r) (steps c (es ++ ys)) (λ n. then_reads (steps c es n) (steps c ys)) (λ n. steps-append c es ys n) ∙ sym (then-then (step c e r) (steps c es) (steps c ys))
+
+-- one event
+one_step : (c : Context) (e : Event) (r : Reader) → steps c (e ∷ []) r ≡ step c e r
+unfolding steps
+one_step c e r = then-same (step c e r) (steps c []) still (λ n. refl) ∙ then-still (step c e r)
+
+-- ---- the tokens of a byte
+
+tokens_both : (c : Context) (xs ys : List Token) (r : Reader) → steps c (events_of (xs ++ ys)) r ≡ then_reads (steps c (events_of xs) r) (steps c (events_of ys))
+tokens_both c xs ys r = ap (λ es. steps c es r) (events-of-append xs ys) ∙ steps-append c (events_of xs) (events_of ys) r
+
+after_first : (old mid : List Parts) (m : Reader) (t : Read) (next : Reader → Read) → before old t ≡ Ok (mid, m) → before old (then_reads t next) ≡ before mid (next m)
+after_first old mid m t next e = sym (then-before old t next) ∙ ap (λ x. then_reads x next) e
+
+tokens_on : (c d : Context) (xs ys zs : List Token) (r m : Reader) (old mid : List Parts) → d ≡ c → zs ≡ ys → before old (steps c (events_of xs) r) ≡ Ok (mid, m)
+    → before old (steps c (events_of (xs ++ ys)) r) ≡ before mid (steps d (events_of zs) m)
+tokens_on c d xs ys zs r m old mid same tokens e =
+    ap (before old) (tokens_both c xs ys r)
+    ∙ (after_first old mid m (steps c (events_of xs) r) (steps c (events_of ys)) e
+    ∙ (ap (λ w. before mid (steps w (events_of ys) m)) (sym same) ∙ ap (λ w. before mid (steps d (events_of w) m)) (sym tokens)))
+
+first_stops : (t : Read) (next : Reader → Read) (why : FrameStop) → HasCause why t → HasCause why (then_reads t next)
+first_stops t next (framing.Refused f) h = ap (λ x. then_reads x next) h
+first_stops t next framing.NoMemory h = tt
+
+behind_stops : (old mid : List Parts) (t u : Read) (why : FrameStop) → before old t ≡ before mid u → HasCause why u → HasCause why t
+behind_stops old mid t u (framing.Refused f) e h = only old t f (e ∙ ap (before mid) h)
+  where
+    only : (q : List Parts) (t : Read) (f : Fault) → before q t ≡ Err f → t ≡ Err f
+    only q (Ok (p, r)) f e = absurd cc
+    only q (Err g) f e = e
+behind_stops old mid t u framing.NoMemory e h = tt
+
+-- what comes behind other events does what all of them do
+reads_on : (result : Result (Unit {0}) FrameStop) (old mid now : List Parts) (t u : Read) (new : Reader) → before old t ≡ before mid u → Reads result mid u now new → Reads result old t now new
+reads_on (Ok x) old mid now t u new e h = e ∙ h
+reads_on (Err why) old mid now t u new e h = behind_stops old mid t u why e h
+
+-- ---- what is told to an engine
+
+-- nothing
+pub tells_none : (e : EngineState) (quads : List Parts) → Tells (Ok tt) [] quads quads e e
+unfolding steps
+tells_none e quads = record { reads = ap (λ q. Ok (q, e.reader)) (append-nil quads); kept = refl }
+
+-- one event
+pub tells_one : (result : Result (Unit {0}) FrameStop) (e : EngineState) (event : Event) (quads now : List Parts) (new : Reader) → Reads result quads (step (context_of e.context) event e.reader) now new →
+    Tells result (event ∷ []) quads now e (record e { reader = new })
+tells_one result e event quads now new h = record { reads = subst (λ t. Reads result quads t now new) (sym (one_step (context_of e.context) event e.reader)) h; kept = refl }
+
+-- some tokens, and then others
+pub tells_both : (result : Result (Unit {0}) FrameStop) (xs ys zs : List Token) (quads mid now : List Parts) (old between new : EngineState) → (h : Tells (Ok tt) (events_of xs) quads mid old between) → zs ≡ ys →
+    Tells result (events_of zs) mid now between new → Tells result (events_of (xs ++ ys)) quads now old new
+tells_both result xs ys zs quads mid now old between new h same k = record {
+  reads =
+      reads_on result quads mid now (brings old (events_of (xs ++ ys))) (brings between (events_of zs)) new.reader
+      (tokens_on (context_of old.context) (context_of between.context) xs ys zs old.reader between.reader quads mid (ap (λ e. context_of e.context) h.kept) same h.reads) k.reads;
+  kept = k.kept ∙ ap {A = EngineState} {B = EngineState} (λ e. record e { reader = new.reader }) h.kept;
+}
+
+-- the first of them stop the reader
+pub tells_stop : (why : FrameStop) (xs ys : List Token) (quads now later : List Parts) (old new : EngineState) → Tells (Err why) (events_of xs) quads now old new → Tells (Err why) (events_of (xs ++ ys)) quads later old new
+tells_stop why xs ys quads now later old new h = record {
+  reads =
+      subst (HasCause why) (sym (tokens_both (context_of old.context) xs ys old.reader))
+      (first_stops (steps (context_of old.context) (events_of xs) old.reader) (steps (context_of old.context) (events_of ys)) why h.reads);
+  kept = h.kept;
+}
 
 -- ---- the count of bytes
 

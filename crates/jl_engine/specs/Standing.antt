@@ -16,10 +16,13 @@ use Rattle.jl_defs.specs.Dataset.{dataset}
 use Rattle.jl_defs.specs.Faults.{faults, AcceptsTree}
 use Rattle.jl_defs.specs.OpenText.{ReadsAs}
 use Rattle.jl_context.specs.Contexts.{context_of}
-use Rattle.jl_frames.specs.Machine.{start}
-use Rattle.jl_frames.specs.Streamed.{tell, later_forms}
-use Rattle.jl_engine.specs.TreeEvents.{events_of}
-use Rattle.jl_engine.specs.Translation.{at_start, events_step}
+use Rattle.jl_frames.specs.Formed.{formed}
+use Rattle.jl_walk.specs.Feeding.{start}
+use Rattle.jl_walk.specs.Running.{run}
+use Rattle.jl_walk.specs.Stage.{document_forms}
+use Rattle.jl_walk.specs.States.{State, at}
+use Rattle.jl_engine.specs.Keeping.{Keeps}
+use Rattle.jl_engine.specs.TreeEvents.{events_of, all_walked}
 use Rattle.jl_engine.specs.declared.engines.EngineState.{EngineState}
 use Rattle.jl_engine.specs.declared.stops.Stop.{Stop}
 use Rattle.jl_engine.specs.declared.stops.Stop.TheVariants as stops
@@ -31,15 +34,20 @@ pub record Stands (s : Settings) (bytes : List ℕ) (quads : List Parts) (e : En
   pub tokens : List Token
   pub lexer : lexed.Stands 0 bytes tokens e.lexer
   pub live : e.lexer.ended ≡ false
-  pub cursor : e.cursor ≡ (events_step (initial s.base) (events_of tokens) at_start).1
-  pub told : tell (events_step (initial s.base) (events_of tokens) at_start).0 start ≡ Ok (quads, e.stack)
+  -- the walk goes over the events, and the engine keeps the state to which it leads
+  pub said : List Parts
+  pub state : State
+  pub walked : run s (all_walked (events_of tokens)) (at (start s)) ≡ Ok (said, state)
+  pub keeps : Keeps s state e.reader
+  -- the quads are those that are well-formed
+  pub quads_are : quads ≡ formed said
   pub count : e.bytes ≡ length bytes
   pub goes_on : e.stopped ≡ None
   pub going : e.ended ≡ false
 
 -- the document is of the forms that are built
 abbrev pub IsWithinStage : Settings → Tree → Type 0
-IsWithinStage s t = later_forms s t ≡ []
+IsWithinStage s t = document_forms s t ≡ []
 
 -- the quads are of the dataset of each accepted document that begins with the bytes
 abbrev pub AreSure : Settings → List ℕ → List Parts → Type 0
@@ -92,7 +100,7 @@ pub record IsFaulty (s : Settings) (bytes : List ℕ) (f : Fault) : Type 0 where
 pub record IsNotBuilt (s : Settings) (bytes : List ℕ) (f : Fault) : Type 0 where
   pub begins : Begins 0 bytes
   pub code_is : f.code ≡ NotYet
-  pub stands : (rest : List ℕ) (t : Tree) → ReadsAs (bytes ++ rest) t → Has (later_forms s t) f.at
+  pub stands : (rest : List ℕ) (t : Tree) → ReadsAs (bytes ++ rest) t → Has (document_forms s t) f.at
 
 pub data Refusal (s : Settings) (bytes : List ℕ) (f : Fault) : Type 0 where
   by_text : BreaksText bytes f → Refusal s bytes f
@@ -146,7 +154,7 @@ pub record IsNotBuiltWhole (s : Settings) (bytes : List ℕ) (f : Fault) : Type 
   pub tree : Tree
   pub reads : ReadsAs bytes tree
   pub code_is : f.code ≡ NotYet
-  pub stands : (t : Tree) → ReadsAs bytes t → Has (later_forms s t) f.at
+  pub stands : (t : Tree) → ReadsAs bytes t → Has (document_forms s t) f.at
 
 -- why the end stops the engine: the bytes are no readable text, or one with this fault, or with a form that isn't built
 pub data EndRefusal (s : Settings) (bytes : List ℕ) (f : Fault) : Type 0 where

@@ -14,9 +14,9 @@ abbrev pub of_lexer : LexStop → Stop
 of_lexer (lexing.Refused f) = Refused f
 of_lexer lexing.NoMemory = NoMemory
 
-abbrev pub of_facts : FrameStop → Stop
-of_facts (framing.Refused f) = Refused f
-of_facts framing.NoMemory = NoMemory
+abbrev pub of_reader : FrameStop → Stop
+of_reader (framing.Refused f) = Refused f
+of_reader framing.NoMemory = NoMemory
 
 abbrev pub of_out : OutStop → Stop
 of_out out.Failed = OutFault

@@ -1,18 +1,18 @@
 //! The engine.
-ghost use Rattle.std.specs.Prelude.{◌≡◌, List, [], ℕ, false, true, None, Some, Err, IfOk, IfErr, OnOk, OnErr, IsErrOf, IfSome};
+ghost use Rattle.std.specs.Prelude.{◌≡◌, [], false, true, None, Some, Err};
+ghost use Rattle.std.specs.Prelude.{IfOk, IfErr, OnOk, OnErr, IsErrOf, IfSome};
 ghost use Rattle.std.specs.Option.{option_copied};
 ghost use Rattle.jl_model.specs.Causes.{HasCause};
 ghost use Rattle.jl_model.specs.Parts.{Parts};
-ghost use Rattle.jl_model.specs.declared.orders.Order.TheVariants as orders;
 ghost use Rattle.jl_defs.specs.Settings.{Settings};
 ghost use Rattle.jl_defs.specs.Texts as texts;
-ghost use Rattle.jl_engine.specs.Standing.{Stands, Fed, Stopped, Finished, StoppedAtEnd};
+ghost use Rattle.jl_engine.specs.Saying.{IsFed, IsStopped, IsFinished, IsStoppedAtEnd};
+ghost use Rattle.jl_engine.specs.Standing.{Stands};
 ghost use Rattle.jl_engine.specs.declared.stops.Stop.{Stop as SpecStop};
 
-use crate::cursors::Cursor;
+use crate::readers::Reader;
 use crate::stops::Stop;
 use jl_context::Context;
-use jl_frames::Stack;
 use jl_model::{NoMemory, Order, QuadOut};
 use jl_token::Lexer;
 use std::alloc::Global;
@@ -24,10 +24,8 @@ pub struct EngineState {
     /// The context of the document.
     pub context: Context,
     pub lexer: Lexer,
-    /// Where the reading stands.
-    pub cursor: Cursor,
-    /// The open containers, and what they say.
-    pub stack: Stack,
+    /// What reads its events.
+    pub reader: Reader,
     /// How many bytes it was fed.
     pub bytes: u64,
     /// Why it has stopped.
@@ -36,8 +34,8 @@ pub struct EngineState {
     pub ended: bool,
 }
 
-/// A processor of one JSON-LD document, which is fed its bytes in pieces of any length, and puts each
-/// quad as soon as it is sure.
+/// A processor of one JSON-LD document, which is fed its bytes in pieces of any length, and puts
+/// each quad as soon as it is sure.
 ///
 /// After an error each call answers the same error again, and puts nothing.
 #[derive(Drop)]
@@ -62,7 +60,8 @@ impl Engine {
         requires streaming { order ≡ Order.Streaming }
         requires base { IfSome (option_copied base) (λ text. texts.is_iri text ≡ true) }
         ensures going { IfOk result (λ engine. engine.ended ≡ false) }
-        ensures stands { IfOk result (λ engine. (s : Settings) → s.order ≡ order → s.base ≡ option_copied base.entry → Stands s [] [] engine) }
+        ensures stands { IfOk result (λ engine. (s : Settings) → s.order ≡ order
+            → s.base ≡ option_copied base.entry → Stands s [] [] engine) }
     {
         match order {
             Order::Streaming => {}
@@ -73,8 +72,7 @@ impl Engine {
             state: EngineState {
                 context,
                 lexer: Lexer::new(alloc, 0),
-                cursor: Cursor::at_start(alloc),
-                stack: Stack::new(alloc),
+                reader: Reader::at_start(alloc),
                 bytes: 0,
                 stopped: None,
                 ended: false,
@@ -82,20 +80,22 @@ impl Engine {
         })
     }
 
-    /// Reads the bytes of a piece, and puts the quads that they make sure. A byte's quads are put once
-    /// all that it completes is found without fault.
+    /// Reads the bytes of a piece, and puts the quads that they make sure. A byte's quads are put
+    /// once all that it completes is found without fault.
     pub fn feed<O: QuadOut>(&mut self, alloc: Global, piece: &[u8], out: &mut O) -> Result<(), Stop>
         requires going { self.old.ended ≡ false }
-        ensures fed { OnOk result ((s : Settings) (bytes : List ℕ) (quads : List Parts) → Stands s bytes quads self.old
-            → Fed s bytes quads piece.now self.new (O.tells out.old) (O.tells out.new) (O.selects out.old)) }
-        ensures stopped { IfErr result (λ stop. (s : Settings) (bytes : List ℕ) (quads : List Parts) → Stands s bytes quads self.old
-            → Stopped s bytes quads piece.now stop self.new (O.tells out.old) (O.tells out.new) (O.selects out.old)) }
+        ensures fed { OnOk result (IsFed piece.now self.old self.new
+            O.tells O.selects out.old out.new) }
+        ensures stopped { IfErr result (λ stop. IsStopped piece.now stop self.old self.new
+            O.tells O.selects out.old out.new) }
         ensures stops { IfErr result (λ stop. self.new.stopped ≡ Some stop) }
-        ensures again { (stop : SpecStop) → self.old.stopped ≡ Some stop → (result ≡ Err stop) × (self.new ≡ self.old) }
+        ensures again { (stop : SpecStop) → self.old.stopped ≡ Some stop
+            → (result ≡ Err stop) × (self.new ≡ self.old) }
         ensures untouched { (stop : SpecStop) → self.old.stopped ≡ Some stop → out.new ≡ out.old }
         ensures going { self.new.ended ≡ false }
         ensures selects { (q : Parts) → O.selects out.new q ≡ O.selects out.old q }
-        ensures cause { self.old.stopped ≡ None → HasCause (O.faults out.old) (O.faults out.new) (IsErrOf result Stop.OutFault) }
+        ensures cause { self.old.stopped ≡ None
+            → HasCause (O.faults out.old) (O.faults out.new) (IsErrOf result Stop.OutFault) }
         ensures beside { O.beside out.old out.new }
     {
         if let Some(stop) = self.state.stopped {
@@ -113,18 +113,20 @@ impl Engine {
     /// Ends the document: it is accepted, or refused.
     pub fn finish<O: QuadOut>(&mut self, alloc: Global, out: &mut O) -> Result<(), Stop>
         requires going { self.old.ended ≡ false }
-        ensures finished { OnOk result ((s : Settings) (bytes : List ℕ) (quads : List Parts) → Stands s bytes quads self.old
-            → Finished s bytes quads (O.tells out.old) (O.tells out.new) (O.selects out.old)) }
-        ensures stopped { IfErr result (λ stop. (s : Settings) (bytes : List ℕ) (quads : List Parts) → Stands s bytes quads self.old
-            → StoppedAtEnd s bytes quads stop (O.tells out.old) (O.tells out.new) (O.selects out.old)) }
+        ensures finished { OnOk result (IsFinished self.old
+            O.tells O.selects out.old out.new) }
+        ensures stopped { IfErr result (λ stop. IsStoppedAtEnd stop self.old
+            O.tells O.selects out.old out.new) }
         ensures stops { IfErr result (λ stop. self.new.stopped ≡ Some stop) }
-        ensures again { (stop : SpecStop) → self.old.stopped ≡ Some stop → (result ≡ Err stop) × (self.new ≡ self.old) }
+        ensures again { (stop : SpecStop) → self.old.stopped ≡ Some stop
+            → (result ≡ Err stop) × (self.new ≡ self.old) }
         ensures untouched { (stop : SpecStop) → self.old.stopped ≡ Some stop → out.new ≡ out.old }
         ensures ended { OnOk result (self.new.ended ≡ true) }
         ensures going { OnErr result (self.new.ended ≡ false) }
         ensures bytes { self.new.bytes ≡ self.old.bytes }
         ensures selects { (q : Parts) → O.selects out.new q ≡ O.selects out.old q }
-        ensures cause { self.old.stopped ≡ None → HasCause (O.faults out.old) (O.faults out.new) (IsErrOf result Stop.OutFault) }
+        ensures cause { self.old.stopped ≡ None
+            → HasCause (O.faults out.old) (O.faults out.new) (IsErrOf result Stop.OutFault) }
         ensures beside { O.beside out.old out.new }
     {
         if let Some(stop) = self.state.stopped {

@@ -1,5 +1,6 @@
 //! What tokens tell.
 ghost use Rattle.std.specs.Prelude.{◌≡◌, [], ◌∷◌, ◌++◌, OnOk};
+ghost use Rattle.jl_engine.specs.Leads.{is_empty};
 ghost use Rattle.jl_engine.specs.TreeEvents.{event_of};
 
 use jl_model::{NoMemory, Scalar, Text, Token};
@@ -57,7 +58,14 @@ impl Events {
         }
     }
 
-    /// Adds an event behind the others.
+    /// Whether there are none.
+    pub fn is_empty(&self) -> bool
+        ensures { result ≡ is_empty self.now }
+    {
+        self.list.is_empty()
+    }
+
+    /// Adds an event after the others.
     pub fn push(&mut self, event: Event) -> Result<(), NoMemory>
         ensures { OnOk result (self.new ≡ self.old ++ event ∷ []) }
     {

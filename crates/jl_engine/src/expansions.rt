@@ -13,14 +13,16 @@ use std::alloc::Global;
 
 /// What a key expands to.
 pub fn expand_key(alloc: Global, context: &Context, name: Text) -> Result<Expanded, NoMemory>
-    ensures { IfOk result (λ expanded. expanded ≡ spec.expand_iri (context_of context.now) name true false) }
+    ensures { IfOk result (λ expanded. expanded
+        ≡ spec.expand_iri (context_of context.now) name true false) }
 {
     expand_text(alloc, context, name, true, false)
 }
 
 /// What a type expands to.
 pub fn expand_type(alloc: Global, context: &Context, name: Text) -> Result<Expanded, NoMemory>
-    ensures { IfOk result (λ expanded. expanded ≡ spec.expand_iri (context_of context.now) name true true) }
+    ensures { IfOk result (λ expanded. expanded
+        ≡ spec.expand_iri (context_of context.now) name true true) }
 {
     expand_text(alloc, context, name, true, true)
 }

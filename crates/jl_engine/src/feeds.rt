@@ -1,25 +1,20 @@
 //! Bytes, token by token.
-ghost use Rattle.std.specs.Prelude.{◌≡◌, ◌<◌, ◌≤◌, ◌+◌, ◌-◌, ◌^◌, ℕ, List, [], ◌∷◌, ◌++◌, length, take, min, option_to_list, true, false, Ok, OnOk, OnErr, IfOk, IfErr, IfSome, IsSome, IsErrOf};
-ghost use Rattle.jl_model.specs.Causes as causes;
-ghost use Rattle.jl_model.specs.Parts.{Parts};
+ghost use Rattle.std.specs.Prelude.{◌≡◌, ◌<◌, ◌≤◌, [], ◌∷◌, length, take, option_to_list};
+ghost use Rattle.std.specs.Prelude.{true, false, OnOk, IfOk, IfErr, IfSome, IsSome};
 ghost use Rattle.jl_model.specs.declared.scalars.Scalar.TheVariants as scalars;
-ghost use Rattle.jl_defs.specs.Settings.{Settings};
 ghost use Rattle.jl_token.specs.Lexed.{number_of, token_of, told};
-ghost use Rattle.jl_context.specs.Contexts.{context_of};
-ghost use Rattle.jl_frames.specs.Answers.{HasCause};
-ghost use Rattle.jl_engine.specs.Gathers.{gather};
-ghost use Rattle.jl_engine.specs.Saying.{Says, SaysSome, StopsSaying};
+ghost use Rattle.jl_engine.specs.Putting.{Leaves};
+ghost use Rattle.jl_engine.specs.Saying.{key_read, scalar_read, Tells, SaysTo, GoesOn};
+ghost use Rattle.jl_engine.specs.Saying.{IsFed, IsStopped, IsFinished, IsStoppedAtEnd};
 ghost use Rattle.jl_engine.specs.Stops.{of_lexer};
-ghost use Rattle.jl_engine.specs.Standing.{Stands, Fed, Stopped, Finished, StoppedAtEnd, WerePut};
-ghost use Rattle.jl_engine.specs.Translation.{events_step};
 ghost use Rattle.jl_engine.specs.TreeEvents.{events_of};
 ghost use Rattle.jl_engine.specs.declared.events.Event.TheVariants as events;
 
 use crate::engines::EngineState;
 use crate::events::Event;
 use crate::outs::put_all;
+use crate::quads::Quads;
 use crate::stops::Stop;
-use crate::tellings::Quads;
 use jl_frames::FrameStop;
 use jl_model::{NoMemory, QuadOut, Scalar, Token};
 use jl_token::{Next, Sign, Signs};
@@ -34,16 +29,12 @@ impl EngineState {
         out: &mut O,
     ) -> Result<(), Stop>
         requires live { self.old.lexer.ended ≡ false }
-        ensures fed { OnOk result ((s : Settings) (bytes : List ℕ) (quads : List Parts) → Stands s bytes quads self.old
-            → Fed s bytes quads piece.now self.new (O.tells out.old) (O.tells out.new) (O.selects out.old)) }
-        ensures stopped { IfErr result (λ stop. (s : Settings) (bytes : List ℕ) (quads : List Parts) → Stands s bytes quads self.old
-            → Stopped s bytes quads piece.now stop self.new (O.tells out.old) (O.tells out.new) (O.selects out.old)) }
-        ensures live { self.new.lexer.ended ≡ false }
-        ensures goes_on { self.new.stopped ≡ self.old.stopped }
-        ensures ended { self.new.ended ≡ self.old.ended }
-        ensures selects { (q : Parts) → O.selects out.new q ≡ O.selects out.old q }
-        ensures cause { causes.HasCause (O.faults out.old) (O.faults out.new) (IsErrOf result Stop.OutFault) }
-        ensures beside { O.beside out.old out.new }
+        ensures fed { OnOk result (IsFed piece.now self.old self.new
+            O.tells O.selects out.old out.new) }
+        ensures stopped { IfErr result (λ stop. IsStopped piece.now stop self.old self.new
+            O.tells O.selects out.old out.new) }
+        ensures goes_on { GoesOn self.old self.new }
+        ensures out { Leaves result O.selects O.faults O.beside out.old out.new }
     {
         let mut at = 0;
         while at < piece.len() {
@@ -55,8 +46,8 @@ impl EngineState {
         Ok(())
     }
 
-    /// Reads bytes from the front of a piece, up to and with the first that completes a token, and tells
-    /// how many.
+    /// Reads bytes from the front of a piece, up to and with the first that completes a token, and
+    /// tells how many.
     #[inline(always)]
     fn feed_some<O: QuadOut>(
         &mut self,
@@ -68,16 +59,12 @@ impl EngineState {
         requires bytes { 0 < length piece.now }
         ensures some { IfOk result (λ n. 0 < n) }
         ensures within { IfOk result (λ n. n ≤ length piece.now) }
-        ensures fed { IfOk result (λ n. (s : Settings) (bytes : List ℕ) (quads : List Parts) → Stands s bytes quads self.old
-            → Fed s bytes quads (take n piece.now) self.new (O.tells out.old) (O.tells out.new) (O.selects out.old)) }
-        ensures stopped { IfErr result (λ stop. (s : Settings) (bytes : List ℕ) (quads : List Parts) → Stands s bytes quads self.old
-            → Stopped s bytes quads piece.now stop self.new (O.tells out.old) (O.tells out.new) (O.selects out.old)) }
-        ensures live { self.new.lexer.ended ≡ false }
-        ensures goes_on { self.new.stopped ≡ self.old.stopped }
-        ensures ended { self.new.ended ≡ self.old.ended }
-        ensures selects { (q : Parts) → O.selects out.new q ≡ O.selects out.old q }
-        ensures cause { causes.HasCause (O.faults out.old) (O.faults out.new) (IsErrOf result Stop.OutFault) }
-        ensures beside { O.beside out.old out.new }
+        ensures fed { IfOk result (λ n. IsFed (take n piece.now) self.old self.new
+            O.tells O.selects out.old out.new) }
+        ensures stopped { IfErr result (λ stop. IsStopped piece.now stop self.old self.new
+            O.tells O.selects out.old out.new) }
+        ensures goes_on { GoesOn self.old self.new }
+        ensures out { Leaves result O.selects O.faults O.beside out.old out.new }
     {
         match self.lexer.next(alloc, piece) {
             Next::Nothing => {
@@ -110,7 +97,7 @@ impl EngineState {
         }
     }
 
-    /// Tells the facts of what a byte completes, and puts their quads once none of them is at fault.
+    /// Says what a byte completes: its quads are put once all of it is found without fault.
     #[inline(never)]
     fn say<O: QuadOut>(
         &mut self,
@@ -119,14 +106,9 @@ impl EngineState {
         at: u64,
         out: &mut O,
     ) -> Result<(), Stop>
-        ensures says { OnOk result (Says (events_step (context_of self.old.context) (events_of (told signs at self.old.lexer.reading)) self.old.cursor).0 self.old.stack self.new.stack (O.tells out.old) (O.tells out.new) (O.selects out.old)) }
-        ensures cursor { OnOk result (self.new.cursor ≡ (events_step (context_of self.old.context) (events_of (told signs at self.old.lexer.reading)) self.old.cursor).1) }
-        ensures some { OnErr result (SaysSome (events_step (context_of self.old.context) (events_of (told signs at self.old.lexer.reading)) self.old.cursor).0 self.old.stack (O.tells out.old) (O.tells out.new) (O.selects out.old)) }
-        ensures stop { IfErr result (StopsSaying (events_step (context_of self.old.context) (events_of (told signs at self.old.lexer.reading)) self.old.cursor).0 self.old.stack) }
-        ensures kept { self.new ≡ record self.old { cursor = self.new.cursor; stack = self.new.stack } }
-        ensures selects { (q : Parts) → O.selects out.new q ≡ O.selects out.old q }
-        ensures cause { causes.HasCause (O.faults out.old) (O.faults out.new) (IsErrOf result Stop.OutFault) }
-        ensures beside { O.beside out.old out.new }
+        ensures says { SaysTo result (told signs at self.old.lexer.reading) self.old self.new
+            O.tells O.selects out.old out.new }
+        ensures out { Leaves result O.selects O.faults O.beside out.old out.new }
     {
         let mut quads = Quads::none(alloc);
         self.say_by(alloc, signs, at, &mut quads, out)
@@ -142,22 +124,17 @@ impl EngineState {
         out: &mut O,
     ) -> Result<(), Stop>
         requires { quads.old ≡ [] }
-        ensures says { OnOk result (Says (events_step (context_of self.old.context) (events_of (told signs at self.old.lexer.reading)) self.old.cursor).0 self.old.stack self.new.stack (O.tells out.old) (O.tells out.new) (O.selects out.old)) }
-        ensures cursor { OnOk result (self.new.cursor ≡ (events_step (context_of self.old.context) (events_of (told signs at self.old.lexer.reading)) self.old.cursor).1) }
-        ensures some { OnErr result (SaysSome (events_step (context_of self.old.context) (events_of (told signs at self.old.lexer.reading)) self.old.cursor).0 self.old.stack (O.tells out.old) (O.tells out.new) (O.selects out.old)) }
-        ensures stop { IfErr result (StopsSaying (events_step (context_of self.old.context) (events_of (told signs at self.old.lexer.reading)) self.old.cursor).0 self.old.stack) }
-        ensures kept { self.new ≡ record self.old { cursor = self.new.cursor; stack = self.new.stack } }
-        ensures selects { (q : Parts) → O.selects out.new q ≡ O.selects out.old q }
-        ensures cause { causes.HasCause (O.faults out.old) (O.faults out.new) (IsErrOf result Stop.OutFault) }
-        ensures beside { O.beside out.old out.new }
+        ensures says { SaysTo result (told signs at self.old.lexer.reading) self.old self.new
+            O.tells O.selects out.old out.new }
+        ensures out { Leaves result O.selects O.faults O.beside out.old out.new }
     {
         match self.tell_signs(alloc, signs, at, quads) {
-            Err(stop) => Err(Stop::of_facts(stop)),
+            Err(stop) => Err(Stop::of_reader(stop)),
             Ok(()) => put_all(quads, out),
         }
     }
 
-    /// Tells the facts of what a byte completes.
+    /// Tells the reader what a byte completes.
     fn tell_signs(
         &mut self,
         alloc: Global,
@@ -165,10 +142,8 @@ impl EngineState {
         at: u64,
         quads: &mut Quads,
     ) -> Result<(), FrameStop>
-        ensures told { OnOk result (gather (events_step (context_of self.old.context) (events_of (told signs at self.old.lexer.reading)) self.old.cursor).0 quads.old self.old.stack ≡ Ok (quads.new, self.new.stack)) }
-        ensures cursor { OnOk result (self.new.cursor ≡ (events_step (context_of self.old.context) (events_of (told signs at self.old.lexer.reading)) self.old.cursor).1) }
-        ensures stops { IfErr result (λ stop. HasCause stop (gather (events_step (context_of self.old.context) (events_of (told signs at self.old.lexer.reading)) self.old.cursor).0 quads.old self.old.stack)) }
-        ensures kept { self.new ≡ record self.old { cursor = self.new.cursor; stack = self.new.stack } }
+        ensures { Tells result (events_of (told signs at self.old.lexer.reading))
+            quads.old quads.new self.old self.new }
     {
         match self.tell_number(alloc, signs.number, quads) {
             Ok(()) => self.tell_sign(alloc, signs.sign, at, quads),
@@ -176,18 +151,16 @@ impl EngineState {
         }
     }
 
-    /// Tells the facts of the number that ended before a byte, if there is one.
-    #[tactic(auto, unfolding(crate::specs::Gathers::gather, crate::specs::Translation::events_step))]
+    /// Tells the number that ended before a byte, if there is one.
+    #[tactic(auto, using(crate::proofs::Steps::tells_none))]
     fn tell_number(
         &mut self,
         alloc: Global,
         number: bool,
         quads: &mut Quads,
     ) -> Result<(), FrameStop>
-        ensures told { OnOk result (gather (events_step (context_of self.old.context) (events_of (number_of number self.old.lexer.reading)) self.old.cursor).0 quads.old self.old.stack ≡ Ok (quads.new, self.new.stack)) }
-        ensures cursor { OnOk result (self.new.cursor ≡ (events_step (context_of self.old.context) (events_of (number_of number self.old.lexer.reading)) self.old.cursor).1) }
-        ensures stops { IfErr result (λ stop. HasCause stop (gather (events_step (context_of self.old.context) (events_of (number_of number self.old.lexer.reading)) self.old.cursor).0 quads.old self.old.stack)) }
-        ensures kept { self.new ≡ record self.old { cursor = self.new.cursor; stack = self.new.stack } }
+        ensures { Tells result (events_of (number_of number self.old.lexer.reading))
+            quads.old quads.new self.old self.new }
     {
         if !number {
             return Ok(());
@@ -195,9 +168,9 @@ impl EngineState {
         self.tell_digits(alloc, quads)
     }
 
-    /// Tells the facts of the sign of the byte at this place. Each kind of them has a function of its
-    /// own, where it is known what the event is.
-    #[tactic(auto, unfolding(crate::specs::Gathers::gather, crate::specs::Translation::events_step))]
+    /// Tells the sign of the byte at this place. Each kind of sign has a function of its own, where
+    /// it is known what the event is.
+    #[tactic(auto, using(crate::proofs::Steps::tells_none))]
     #[inline(always)]
     fn tell_sign(
         &mut self,
@@ -206,10 +179,8 @@ impl EngineState {
         at: u64,
         quads: &mut Quads,
     ) -> Result<(), FrameStop>
-        ensures told { OnOk result (gather (events_step (context_of self.old.context) (events_of (token_of sign at self.old.lexer.reading)) self.old.cursor).0 quads.old self.old.stack ≡ Ok (quads.new, self.new.stack)) }
-        ensures cursor { OnOk result (self.new.cursor ≡ (events_step (context_of self.old.context) (events_of (token_of sign at self.old.lexer.reading)) self.old.cursor).1) }
-        ensures stops { IfErr result (λ stop. HasCause stop (gather (events_step (context_of self.old.context) (events_of (token_of sign at self.old.lexer.reading)) self.old.cursor).0 quads.old self.old.stack)) }
-        ensures kept { self.new ≡ record self.old { cursor = self.new.cursor; stack = self.new.stack } }
+        ensures { Tells result (events_of (token_of sign at self.old.lexer.reading))
+            quads.old quads.new self.old self.new }
     {
         match sign {
             Sign::Nothing => Ok(()),
@@ -224,47 +195,36 @@ impl EngineState {
         }
     }
 
-    /// Tells the facts of an object that opens at this place.
+    /// Tells that an object opens at this place.
     #[inline(never)]
     fn tell_object(&mut self, alloc: Global, at: u64, quads: &mut Quads) -> Result<(), FrameStop>
-        ensures told { OnOk result (gather (events_step (context_of self.old.context) (events.OpensObject at ∷ []) self.old.cursor).0 quads.old self.old.stack ≡ Ok (quads.new, self.new.stack)) }
-        ensures cursor { OnOk result (self.new.cursor ≡ (events_step (context_of self.old.context) (events.OpensObject at ∷ []) self.old.cursor).1) }
-        ensures stops { IfErr result (λ stop. HasCause stop (gather (events_step (context_of self.old.context) (events.OpensObject at ∷ []) self.old.cursor).0 quads.old self.old.stack)) }
-        ensures kept { self.new ≡ record self.old { cursor = self.new.cursor; stack = self.new.stack } }
+        ensures { Tells result (events.OpensObject at ∷ []) quads.old quads.new self.old self.new }
     {
         self.tell_event(alloc, Event::OpensObject { at }, quads)
     }
 
-    /// Tells the facts of an array that opens at this place.
+    /// Tells that an array opens at this place.
     #[inline(never)]
     fn tell_array(&mut self, alloc: Global, at: u64, quads: &mut Quads) -> Result<(), FrameStop>
-        ensures told { OnOk result (gather (events_step (context_of self.old.context) (events.OpensArray at ∷ []) self.old.cursor).0 quads.old self.old.stack ≡ Ok (quads.new, self.new.stack)) }
-        ensures cursor { OnOk result (self.new.cursor ≡ (events_step (context_of self.old.context) (events.OpensArray at ∷ []) self.old.cursor).1) }
-        ensures stops { IfErr result (λ stop. HasCause stop (gather (events_step (context_of self.old.context) (events.OpensArray at ∷ []) self.old.cursor).0 quads.old self.old.stack)) }
-        ensures kept { self.new ≡ record self.old { cursor = self.new.cursor; stack = self.new.stack } }
+        ensures { Tells result (events.OpensArray at ∷ []) quads.old quads.new self.old self.new }
     {
         self.tell_event(alloc, Event::OpensArray { at }, quads)
     }
 
-    /// Tells the facts of a container that closes.
+    /// Tells that a container closes.
     #[inline(never)]
     fn tell_closing(&mut self, alloc: Global, quads: &mut Quads) -> Result<(), FrameStop>
-        ensures told { OnOk result (gather (events_step (context_of self.old.context) (events.Closes ∷ []) self.old.cursor).0 quads.old self.old.stack ≡ Ok (quads.new, self.new.stack)) }
-        ensures cursor { OnOk result (self.new.cursor ≡ (events_step (context_of self.old.context) (events.Closes ∷ []) self.old.cursor).1) }
-        ensures stops { IfErr result (λ stop. HasCause stop (gather (events_step (context_of self.old.context) (events.Closes ∷ []) self.old.cursor).0 quads.old self.old.stack)) }
-        ensures kept { self.new ≡ record self.old { cursor = self.new.cursor; stack = self.new.stack } }
+        ensures { Tells result (events.Closes ∷ []) quads.old quads.new self.old self.new }
     {
         self.tell_event(alloc, Event::Closes, quads)
     }
 
-    /// Tells the facts of the key that was read last, with a copy of its name: the room of what was read
+    /// Tells the key that was read last, with a copy of its name: the room of what was read
     /// serves the next token too.
     #[inline(never)]
     fn tell_name(&mut self, alloc: Global, quads: &mut Quads) -> Result<(), FrameStop>
-        ensures told { OnOk result (gather (events_step (context_of self.old.context) (events.Key self.old.lexer.reading.start self.old.lexer.reading.part ∷ []) self.old.cursor).0 quads.old self.old.stack ≡ Ok (quads.new, self.new.stack)) }
-        ensures cursor { OnOk result (self.new.cursor ≡ (events_step (context_of self.old.context) (events.Key self.old.lexer.reading.start self.old.lexer.reading.part ∷ []) self.old.cursor).1) }
-        ensures stops { IfErr result (λ stop. HasCause stop (gather (events_step (context_of self.old.context) (events.Key self.old.lexer.reading.start self.old.lexer.reading.part ∷ []) self.old.cursor).0 quads.old self.old.stack)) }
-        ensures kept { self.new ≡ record self.old { cursor = self.new.cursor; stack = self.new.stack } }
+        ensures { Tells result (key_read self.old.lexer ∷ [])
+            quads.old quads.new self.old self.new }
     {
         let at = self.lexer.token_place();
         match self.lexer.text().copy(alloc) {
@@ -276,10 +236,9 @@ impl EngineState {
     /// The same for a string.
     #[inline(never)]
     fn tell_string(&mut self, alloc: Global, quads: &mut Quads) -> Result<(), FrameStop>
-        ensures told { OnOk result (gather (events_step (context_of self.old.context) (events.Value self.old.lexer.reading.start (scalars.Str self.old.lexer.reading.part) ∷ []) self.old.cursor).0 quads.old self.old.stack ≡ Ok (quads.new, self.new.stack)) }
-        ensures cursor { OnOk result (self.new.cursor ≡ (events_step (context_of self.old.context) (events.Value self.old.lexer.reading.start (scalars.Str self.old.lexer.reading.part) ∷ []) self.old.cursor).1) }
-        ensures stops { IfErr result (λ stop. HasCause stop (gather (events_step (context_of self.old.context) (events.Value self.old.lexer.reading.start (scalars.Str self.old.lexer.reading.part) ∷ []) self.old.cursor).0 quads.old self.old.stack)) }
-        ensures kept { self.new ≡ record self.old { cursor = self.new.cursor; stack = self.new.stack } }
+        ensures { Tells result
+            (scalar_read (scalars.Str self.old.lexer.reading.part) self.old.lexer ∷ [])
+            quads.old quads.new self.old self.new }
     {
         let at = self.lexer.token_place();
         match self.lexer.text().copy(alloc) {
@@ -298,10 +257,9 @@ impl EngineState {
     /// The same for a number.
     #[inline(never)]
     fn tell_digits(&mut self, alloc: Global, quads: &mut Quads) -> Result<(), FrameStop>
-        ensures told { OnOk result (gather (events_step (context_of self.old.context) (events.Value self.old.lexer.reading.start (scalars.Number self.old.lexer.reading.part) ∷ []) self.old.cursor).0 quads.old self.old.stack ≡ Ok (quads.new, self.new.stack)) }
-        ensures cursor { OnOk result (self.new.cursor ≡ (events_step (context_of self.old.context) (events.Value self.old.lexer.reading.start (scalars.Number self.old.lexer.reading.part) ∷ []) self.old.cursor).1) }
-        ensures stops { IfErr result (λ stop. HasCause stop (gather (events_step (context_of self.old.context) (events.Value self.old.lexer.reading.start (scalars.Number self.old.lexer.reading.part) ∷ []) self.old.cursor).0 quads.old self.old.stack)) }
-        ensures kept { self.new ≡ record self.old { cursor = self.new.cursor; stack = self.new.stack } }
+        ensures { Tells result
+            (scalar_read (scalars.Number self.old.lexer.reading.part) self.old.lexer ∷ [])
+            quads.old quads.new self.old self.new }
     {
         match self.lexer.text().copy(alloc) {
             Ok(digits) => self.tell_scalar(alloc, Scalar::Number(digits), quads),
@@ -309,7 +267,7 @@ impl EngineState {
         }
     }
 
-    /// Tells the facts of the scalar that was read last.
+    /// Tells the scalar that was read last.
     #[inline(never)]
     fn tell_scalar(
         &mut self,
@@ -317,27 +275,23 @@ impl EngineState {
         scalar: Scalar,
         quads: &mut Quads,
     ) -> Result<(), FrameStop>
-        ensures told { OnOk result (gather (events_step (context_of self.old.context) (events.Value self.old.lexer.reading.start scalar ∷ []) self.old.cursor).0 quads.old self.old.stack ≡ Ok (quads.new, self.new.stack)) }
-        ensures cursor { OnOk result (self.new.cursor ≡ (events_step (context_of self.old.context) (events.Value self.old.lexer.reading.start scalar ∷ []) self.old.cursor).1) }
-        ensures stops { IfErr result (λ stop. HasCause stop (gather (events_step (context_of self.old.context) (events.Value self.old.lexer.reading.start scalar ∷ []) self.old.cursor).0 quads.old self.old.stack)) }
-        ensures kept { self.new ≡ record self.old { cursor = self.new.cursor; stack = self.new.stack } }
+        ensures { Tells result (scalar_read scalar self.old.lexer ∷ [])
+            quads.old quads.new self.old self.new }
     {
         let at = self.lexer.token_place();
         self.tell_event(alloc, Event::Value { at, scalar }, quads)
     }
 
-    /// Tells the facts of a token, if there is one.
-    #[tactic(auto, unfolding(crate::specs::Gathers::gather, crate::specs::Translation::events_step))]
+    /// Tells a token, if there is one.
+    #[tactic(auto, using(crate::proofs::Steps::tells_none))]
     fn tell_token(
         &mut self,
         alloc: Global,
         token: Option<Token>,
         quads: &mut Quads,
     ) -> Result<(), FrameStop>
-        ensures told { OnOk result (gather (events_step (context_of self.old.context) (events_of (option_to_list token)) self.old.cursor).0 quads.old self.old.stack ≡ Ok (quads.new, self.new.stack)) }
-        ensures cursor { OnOk result (self.new.cursor ≡ (events_step (context_of self.old.context) (events_of (option_to_list token)) self.old.cursor).1) }
-        ensures stops { IfErr result (λ stop. HasCause stop (gather (events_step (context_of self.old.context) (events_of (option_to_list token)) self.old.cursor).0 quads.old self.old.stack)) }
-        ensures kept { self.new ≡ record self.old { cursor = self.new.cursor; stack = self.new.stack } }
+        ensures { Tells result (events_of (option_to_list token))
+            quads.old quads.new self.old self.new }
     {
         match token {
             None => Ok(()),
@@ -345,8 +299,7 @@ impl EngineState {
         }
     }
 
-    /// Tells the facts of an event.
-    #[tactic(auto, unfolding(crate::specs::Gathers::gather, crate::specs::Translation::events_step))]
+    /// Tells the reader an event.
     #[inline(always)]
     fn tell_event(
         &mut self,
@@ -354,29 +307,23 @@ impl EngineState {
         event: Event,
         quads: &mut Quads,
     ) -> Result<(), FrameStop>
-        ensures told { OnOk result (gather (events_step (context_of self.old.context) (event ∷ []) self.old.cursor).0 quads.old self.old.stack ≡ Ok (quads.new, self.new.stack)) }
-        ensures cursor { OnOk result (self.new.cursor ≡ (events_step (context_of self.old.context) (event ∷ []) self.old.cursor).1) }
-        ensures stops { IfErr result (λ stop. HasCause stop (gather (events_step (context_of self.old.context) (event ∷ []) self.old.cursor).0 quads.old self.old.stack)) }
-        ensures kept { self.new ≡ record self.old { cursor = self.new.cursor; stack = self.new.stack } }
+        ensures { Tells result (event ∷ []) quads.old quads.new self.old self.new }
     {
-        self.cursor
-            .step(alloc, &self.context, event, &mut self.stack, quads)
+        self.reader.step(alloc, &self.context, event, quads)
     }
 
     /// Ends the document: what only its end completes is said.
     pub(crate) fn finish<O: QuadOut>(&mut self, alloc: Global, out: &mut O) -> Result<(), Stop>
         requires live { self.old.lexer.ended ≡ false }
-        ensures finished { OnOk result ((s : Settings) (bytes : List ℕ) (quads : List Parts) → Stands s bytes quads self.old
-            → Finished s bytes quads (O.tells out.old) (O.tells out.new) (O.selects out.old)) }
-        ensures stopped { IfErr result (λ stop. (s : Settings) (bytes : List ℕ) (quads : List Parts) → Stands s bytes quads self.old
-            → StoppedAtEnd s bytes quads stop (O.tells out.old) (O.tells out.new) (O.selects out.old)) }
+        ensures finished { OnOk result (IsFinished self.old
+            O.tells O.selects out.old out.new) }
+        ensures stopped { IfErr result (λ stop. IsStoppedAtEnd stop self.old
+            O.tells O.selects out.old out.new) }
         ensures over { OnOk result (self.new.lexer.ended ≡ true) }
         ensures bytes { self.new.bytes ≡ self.old.bytes }
         ensures goes_on { self.new.stopped ≡ self.old.stopped }
         ensures ended { self.new.ended ≡ self.old.ended }
-        ensures selects { (q : Parts) → O.selects out.new q ≡ O.selects out.old q }
-        ensures cause { causes.HasCause (O.faults out.old) (O.faults out.new) (IsErrOf result Stop.OutFault) }
-        ensures beside { O.beside out.old out.new }
+        ensures out { Leaves result O.selects O.faults O.beside out.old out.new }
     {
         match self.lexer.finish(alloc) {
             Err(stop) => Err(Stop::of_lexer(stop)),
@@ -384,21 +331,16 @@ impl EngineState {
         }
     }
 
-    /// Tells the facts of the number that the end completes, if there is one, and puts their quads.
+    /// Says the number that the end completes, if there is one.
     fn say_last<O: QuadOut>(
         &mut self,
         alloc: Global,
         token: Option<Token>,
         out: &mut O,
     ) -> Result<(), Stop>
-        ensures says { OnOk result (Says (events_step (context_of self.old.context) (events_of (option_to_list token)) self.old.cursor).0 self.old.stack self.new.stack (O.tells out.old) (O.tells out.new) (O.selects out.old)) }
-        ensures cursor { OnOk result (self.new.cursor ≡ (events_step (context_of self.old.context) (events_of (option_to_list token)) self.old.cursor).1) }
-        ensures some { OnErr result (SaysSome (events_step (context_of self.old.context) (events_of (option_to_list token)) self.old.cursor).0 self.old.stack (O.tells out.old) (O.tells out.new) (O.selects out.old)) }
-        ensures stop { IfErr result (StopsSaying (events_step (context_of self.old.context) (events_of (option_to_list token)) self.old.cursor).0 self.old.stack) }
-        ensures kept { self.new ≡ record self.old { cursor = self.new.cursor; stack = self.new.stack } }
-        ensures selects { (q : Parts) → O.selects out.new q ≡ O.selects out.old q }
-        ensures cause { causes.HasCause (O.faults out.old) (O.faults out.new) (IsErrOf result Stop.OutFault) }
-        ensures beside { O.beside out.old out.new }
+        ensures says { SaysTo result (option_to_list token) self.old self.new
+            O.tells O.selects out.old out.new }
+        ensures out { Leaves result O.selects O.faults O.beside out.old out.new }
     {
         let mut quads = Quads::none(alloc);
         self.say_last_by(alloc, token, &mut quads, out)
@@ -413,17 +355,12 @@ impl EngineState {
         out: &mut O,
     ) -> Result<(), Stop>
         requires { quads.old ≡ [] }
-        ensures says { OnOk result (Says (events_step (context_of self.old.context) (events_of (option_to_list token)) self.old.cursor).0 self.old.stack self.new.stack (O.tells out.old) (O.tells out.new) (O.selects out.old)) }
-        ensures cursor { OnOk result (self.new.cursor ≡ (events_step (context_of self.old.context) (events_of (option_to_list token)) self.old.cursor).1) }
-        ensures some { OnErr result (SaysSome (events_step (context_of self.old.context) (events_of (option_to_list token)) self.old.cursor).0 self.old.stack (O.tells out.old) (O.tells out.new) (O.selects out.old)) }
-        ensures stop { IfErr result (StopsSaying (events_step (context_of self.old.context) (events_of (option_to_list token)) self.old.cursor).0 self.old.stack) }
-        ensures kept { self.new ≡ record self.old { cursor = self.new.cursor; stack = self.new.stack } }
-        ensures selects { (q : Parts) → O.selects out.new q ≡ O.selects out.old q }
-        ensures cause { causes.HasCause (O.faults out.old) (O.faults out.new) (IsErrOf result Stop.OutFault) }
-        ensures beside { O.beside out.old out.new }
+        ensures says { SaysTo result (option_to_list token) self.old self.new
+            O.tells O.selects out.old out.new }
+        ensures out { Leaves result O.selects O.faults O.beside out.old out.new }
     {
         match self.tell_token(alloc, token, quads) {
-            Err(last) => Err(Stop::of_facts(last)),
+            Err(last) => Err(Stop::of_reader(last)),
             Ok(()) => put_all(quads, out),
         }
     }

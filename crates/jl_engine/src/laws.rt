@@ -8,5 +8,6 @@ ghost use Rattle.jl_engine.specs.declared.engines.EngineState.{EngineState};
 /// What an engine has read so far begins a text, and the quads that it says are of the dataset of
 /// each accepted document, of the forms that are built, that begins so.
 pub fn law_sure()
-    ensures { (s : Settings) (bytes : List ℕ) (quads : List Parts) (e : EngineState) → Stands s bytes quads e → AreSure s bytes quads }
+    ensures { (s : Settings) (bytes : List ℕ) (quads : List Parts) (e : EngineState)
+        → Stands s bytes quads e → AreSure s bytes quads }
 {}

@@ -1,7 +1,7 @@
 //! The terms of nodes.
 ghost use Rattle.std.specs.Prelude.{◌≡◌, IfOk};
 ghost use Rattle.jl_defs.specs.NodeMap as spec;
-ghost use Rattle.jl_engine.specs.Translation.{naming_shown};
+ghost use Rattle.jl_engine.specs.Leads.{naming_shown};
 
 use itoa::Buffer;
 use jl_frames::term_of_text;

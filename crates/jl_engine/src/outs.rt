@@ -1,24 +1,18 @@
 //! Quads, put one after another.
-ghost use Rattle.std.specs.Prelude.{◌≡◌, [], ◌∷◌, OnOk, OnErr, IfErr, IsErrOf};
-ghost use Rattle.jl_model.specs.Causes.{HasCause};
-ghost use Rattle.jl_model.specs.Parts.{Parts};
-ghost use Rattle.jl_engine.specs.Saying.{PutSome};
+ghost use Rattle.std.specs.Prelude.{[], ◌∷◌, OnOk, OnErr, IfErr};
+ghost use Rattle.jl_engine.specs.Putting.{Leaves, Puts};
 ghost use Rattle.jl_engine.specs.Standing.{WerePut};
 ghost use Rattle.jl_engine.specs.Stops.{IsOutside};
 
+use crate::quads::Quads;
 use crate::stops::Stop;
-use crate::tellings::Quads;
 use jl_model::{Quad, QuadOut};
 
 /// Puts quads in their order. Most bytes bring none.
 #[inline(always)]
 pub fn put_all<O: QuadOut>(quads: &Quads, out: &mut O) -> Result<(), Stop>
-    ensures put { OnOk result (WerePut (O.tells out.old) (O.tells out.new) (O.selects out.old) quads.now) }
-    ensures some { OnErr result (PutSome (O.tells out.old) (O.tells out.new) (O.selects out.old) quads.now) }
-    ensures stop { IfErr result IsOutside }
-    ensures selects { (q : Parts) → O.selects out.new q ≡ O.selects out.old q }
-    ensures cause { HasCause (O.faults out.old) (O.faults out.new) (IsErrOf result Stop.OutFault) }
-    ensures beside { O.beside out.old out.new }
+    ensures put { Puts result quads.now O.tells O.selects out.old out.new }
+    ensures out { Leaves result O.selects O.faults O.beside out.old out.new }
 {
     if quads.is_empty() {
         return Ok(());
@@ -29,12 +23,8 @@ pub fn put_all<O: QuadOut>(quads: &Quads, out: &mut O) -> Result<(), Stop>
 /// The same, where there are some.
 #[inline(never)]
 fn put_some<O: QuadOut>(quads: &Quads, out: &mut O) -> Result<(), Stop>
-    ensures put { OnOk result (WerePut (O.tells out.old) (O.tells out.new) (O.selects out.old) quads.now) }
-    ensures some { OnErr result (PutSome (O.tells out.old) (O.tells out.new) (O.selects out.old) quads.now) }
-    ensures stop { IfErr result IsOutside }
-    ensures selects { (q : Parts) → O.selects out.new q ≡ O.selects out.old q }
-    ensures cause { HasCause (O.faults out.old) (O.faults out.new) (IsErrOf result Stop.OutFault) }
-    ensures beside { O.beside out.old out.new }
+    ensures put { Puts result quads.now O.tells O.selects out.old out.new }
+    ensures out { Leaves result O.selects O.faults O.beside out.old out.new }
 {
     let (first, others) = quads.parts();
     if let Err(stop) = put_each(first, out) {
@@ -46,12 +36,8 @@ fn put_some<O: QuadOut>(quads: &Quads, out: &mut O) -> Result<(), Stop>
 /// Puts the quads behind the first. Nearly always there are none.
 #[inline(always)]
 fn put_others<O: QuadOut>(quads: &[Quad], out: &mut O) -> Result<(), Stop>
-    ensures put { OnOk result (WerePut (O.tells out.old) (O.tells out.new) (O.selects out.old) quads.now) }
-    ensures some { OnErr result (PutSome (O.tells out.old) (O.tells out.new) (O.selects out.old) quads.now) }
-    ensures stop { IfErr result IsOutside }
-    ensures selects { (q : Parts) → O.selects out.new q ≡ O.selects out.old q }
-    ensures cause { HasCause (O.faults out.old) (O.faults out.new) (IsErrOf result Stop.OutFault) }
-    ensures beside { O.beside out.old out.new }
+    ensures put { Puts result quads.now O.tells O.selects out.old out.new }
+    ensures out { Leaves result O.selects O.faults O.beside out.old out.new }
 {
     if quads.is_empty() {
         return Ok(());
@@ -60,12 +46,8 @@ fn put_others<O: QuadOut>(quads: &[Quad], out: &mut O) -> Result<(), Stop>
 }
 
 fn put_each<O: QuadOut>(quads: &[Quad], out: &mut O) -> Result<(), Stop>
-    ensures put { OnOk result (WerePut (O.tells out.old) (O.tells out.new) (O.selects out.old) quads.now) }
-    ensures some { OnErr result (PutSome (O.tells out.old) (O.tells out.new) (O.selects out.old) quads.now) }
-    ensures stop { IfErr result IsOutside }
-    ensures selects { (q : Parts) → O.selects out.new q ≡ O.selects out.old q }
-    ensures cause { HasCause (O.faults out.old) (O.faults out.new) (IsErrOf result Stop.OutFault) }
-    ensures beside { O.beside out.old out.new }
+    ensures put { Puts result quads.now O.tells O.selects out.old out.new }
+    ensures out { Leaves result O.selects O.faults O.beside out.old out.new }
 {
     for quad in quads {
         if let Err(stop) = put_quad(quad, out) {
@@ -76,12 +58,12 @@ fn put_each<O: QuadOut>(quads: &[Quad], out: &mut O) -> Result<(), Stop>
 }
 
 fn put_quad<O: QuadOut>(quad: &Quad, out: &mut O) -> Result<(), Stop>
-    ensures put { OnOk result (WerePut (O.tells out.old) (O.tells out.new) (O.selects out.old) (quad.now ∷ [])) }
-    ensures unput { OnErr result (WerePut (O.tells out.old) (O.tells out.new) (O.selects out.old) []) }
+    ensures put { OnOk result (WerePut (O.tells out.old) (O.tells out.new) (O.selects out.old)
+        (quad.now ∷ [])) }
+    ensures unput { OnErr result (WerePut (O.tells out.old) (O.tells out.new) (O.selects out.old)
+        []) }
     ensures stop { IfErr result IsOutside }
-    ensures selects { (q : Parts) → O.selects out.new q ≡ O.selects out.old q }
-    ensures cause { HasCause (O.faults out.old) (O.faults out.new) (IsErrOf result Stop.OutFault) }
-    ensures beside { O.beside out.old out.new }
+    ensures out { Leaves result O.selects O.faults O.beside out.old out.new }
 {
     match out.put(quad) {
         Ok(()) => Ok(()),

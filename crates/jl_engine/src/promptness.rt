@@ -1,15 +1,8 @@
 //! When quads are said.
+ghost use Rattle.jl_engine.specs.Prompt.{DueIsSaid};
 
-ghost use Rattle.jl_engine.specs.Prompt.{DueIsTold, DueIsSaid};
-
-/// The events of what has been read of a document say all that is due for it, where some accepted document of the forms
-/// that are built goes on from it.
-pub fn law_due_is_told()
-    ensures { DueIsTold }
-{}
-
-/// Each quad that is due by the bytes that an engine was fed is among those that it has said, where some accepted
-/// document of the forms that are built begins with these bytes.
+/// Each quad that is due by the bytes that an engine was fed is among those that it has said, where
+/// some accepted document of the forms that are built begins with these bytes.
 pub fn law_due_is_said()
     ensures { DueIsSaid }
 {}

@@ -9,8 +9,8 @@ use jl_token::LexStop;
 /// Why a call of an engine gave no answer. The engine answers the same from then on.
 #[derive(Clone, Copy, Debug, PartialEq, Eq)]
 pub enum Stop {
-    /// The document is refused: by a fault of its text, by one of what it says, or since a form in it
-    /// isn't built yet.
+    /// The document is refused: by a fault of its text, by one of what it says, or since a form in
+    /// it isn't built yet.
     Refused(Fault),
     /// The out failed.
     OutFault,
@@ -28,9 +28,9 @@ impl Stop {
         }
     }
 
-    /// A stop of the stack, or of what tells it facts.
-    pub(crate) fn of_facts(stop: FrameStop) -> Stop
-        ensures { result ≡ spec.of_facts stop }
+    /// A stop of the reader.
+    pub(crate) fn of_reader(stop: FrameStop) -> Stop
+        ensures { result ≡ spec.of_reader stop }
     {
         match stop {
             FrameStop::Refused(fault) => Stop::Refused(fault),

@@ -1,5 +1,5 @@
-//! What no clause says: that an engine with ample memory reads, and how quads look as lines. Each row
-//! was counted by hand.
+//! What no clause says: that an engine with ample memory reads, and how quads look as lines. Each
+//! row was counted by hand.
 ghost use Rattle.std.specs.Prelude.{true};
 
 use super::engines::Engine;
@@ -67,8 +67,8 @@ impl QuadOut for Failing {
     ghost joins = { λ _ _ _ _ _. tt };
 }
 
-/// An out that fails at each of its calls: the answer is the out's failure, which was counted once, and
-/// stays so; where the out takes all, nothing is counted.
+/// An out that fails at each of its calls: the answer is the out's failure, which was counted once,
+/// and stays so; where the out takes all, nothing is counted.
 #[test]
 fn an_out_that_fails_is_told_of(rt: HostRuntime) -> Result<(), Fail> {
     let alloc = rt.alloc();

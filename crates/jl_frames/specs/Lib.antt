@@ -4,7 +4,4 @@ pub mod Closing
 pub mod Fronts
 pub mod Machine
 pub mod Answers
-pub mod Facts
-pub mod Stage
-pub mod Streamed
-pub mod Laws
+pub mod ReadAs

@@ -2,10 +2,12 @@
 ghost use Rattle.std.specs.Prelude.{◌≡◌, true, false, Ok, Err, None, Some, IfOk, IfErr, IfSome, IsErr};
 ghost use Rattle.jl_frames.specs.Answers.{AnswersAgain, HasCause, IsBuilt, IsRefusal, after_stop, is_built_key};
 ghost use Rattle.jl_frames.specs.Machine as spec;
+ghost use Rattle.jl_frames.specs.ReadAs.{read_as};
 
 use super::emits::Emits;
 use super::facts::{Frame, KeyFact, ValueFact};
 use super::opens::Opens;
+use super::reads::ReadAs;
 use super::states::{FrameStop, StackState};
 use std::alloc::Global;
 use std::marker::Model;
@@ -55,6 +57,14 @@ impl Stack {
         ensures { result.now ≡ self.now }
     {
         &self.state
+    }
+
+    /// What the value that comes next is read as.
+    #[inline(always)]
+    pub fn reads_as(&self) -> ReadAs
+        ensures { result ≡ read_as self.now }
+    {
+        self.state.reads_as()
     }
 
     /// A container opens, in one of the roles that are built.

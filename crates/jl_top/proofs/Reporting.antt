@@ -18,7 +18,7 @@ use Rattle.jl_engine.specs.Standing.{EndRefusal}
 use Rattle.jl_engine.specs.Standing.EndRefusal.{by_end, by_fault as end_by_fault, by_form as end_by_form}
 use Rattle.jl_defs.specs.OpenText.{ReadsAs}
 use Rattle.jl_defs.specs.Faults.{faults}
-use Rattle.jl_frames.specs.Streamed.{later_forms}
+use Rattle.jl_walk.specs.Stage.{document_forms}
 use Rattle.jl_top.specs.Blocks.{CountsLines}
 use Rattle.jl_top.specs.ConversionRuns.{WriteAnswers}
 use Rattle.jl_top.specs.Headline.{AnswersRead, AnswersFault, AnswersTaken, AnswersMemory, AnswersTooLong, Accepts, IsComplete, PutsSureLines, RunAnswers}
@@ -55,7 +55,7 @@ no_refusal s front rest bytes fault e (t, reads, accepts, built) (by_form h) = n
 no_end_refusal : (s : Settings) (bytes : List ℕ) (fault : Fault) → Accepts s bytes → EndRefusal s bytes fault → ⊥
 no_end_refusal s bytes fault (t, reads, accepts, built) (by_end h) = h.unreadable t reads.0 reads.1
 no_end_refusal s bytes fault (t, reads, accepts, built) (end_by_fault h) = none_had (faults s t) fault accepts (h.faulty t reads)
-no_end_refusal s bytes fault (t, reads, accepts, built) (end_by_form h) = none_had (later_forms s t) fault.at built (h.stands t reads)
+no_end_refusal s bytes fault (t, reads, accepts, built) (end_by_form h) = none_had (document_forms s t) fault.at built (h.stands t reads)
 
 -- an accepted document has no fault
 no_fault : (s : Settings) (fault : Fault) (taken bytes : List ℕ) (put : Option (List ℕ)) (told_end : Bool) (left : Option (List ℕ)) → Leaves (Some bytes) taken left → Accepts s bytes → IsFault s taken fault put told_end left → ⊥

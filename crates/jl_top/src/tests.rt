@@ -622,6 +622,36 @@ fn refuses_documents(rt: HostRuntime) -> Result<(), Fail> {
             "",
             "jl: invalid value object value at 34\n",
         ),
+        refused(
+            "a context after another member",
+            br#"{"http://a/p":"x","@context":{}}"#,
+            "_:jlb0 <http://a/p> \"x\" .\n",
+            "jl: late context at 18\n",
+        ),
+        refused(
+            "an array as an identifier, with a value inside that is dropped with it",
+            br#"{"@id":["http://a/s",{"@value":[1]}],"http://a/p":"y"}"#,
+            "",
+            "jl: invalid @id value at 1\n",
+        ),
+        refused(
+            "an array inside an array of types",
+            br#"{"@type":["http://a/T",[{"a":"b"}]],"http://a/p":"y"}"#,
+            "",
+            "jl: invalid type value at 1\n",
+        ),
+        refused(
+            "an object as a language, after a name",
+            br#"{"@id":"http://a/s","@language":{"a":[{}]},"@id2":1}"#,
+            "",
+            "jl: invalid language-tagged string at 20\n",
+        ),
+        refused(
+            "an object as a value",
+            br#"{"@id":"http://a/s","http://a/p":{"@value":{"a":[1]},"@language":"en"}}"#,
+            "",
+            "jl: invalid value object value at 34\n",
+        ),
     ];
     for row in rows {
         assert!(rt; holds_cut(rt.alloc(), &row)?, "{}", row.shows);
@@ -657,6 +687,12 @@ fn refuses_forms_that_are_not_built(rt: HostRuntime) -> Result<(), Fail> {
         refused(
             "a JSON literal",
             br#"{"@id":"http://a/s","http://a/p":{"@type":["@json"],"@value":null}}"#,
+            "",
+            "jl: not yet at 33\n",
+        ),
+        refused(
+            "a JSON literal with an object inside",
+            br#"{"@id":"http://a/s","http://a/p":{"@type":"@json","@value":{"a":[{"b":1}]}}}"#,
             "",
             "jl: not yet at 33\n",
         ),

@@ -1,11 +1,8 @@
 use Rattle.std.proofs.Common.{rules, refl, subst, ◌∙◌, ◌++◌, take, arith}
 use Rattle.std.proofs.lemmas.Grind.{common_steps}
-use Rattle.jl_model.proofs.Causing.{cause_none, cause_after, cause_as}
 use Rattle.jl_engine.specs.Standing.{Fed, Stopped}
 use Rattle.jl_engine.proofs.Bytes.{rest_is}
 use Rattle.jl_engine.proofs.Feeding.{fed-none, part-fed, part-stopped, whole-fed}
-use Rattle.jl_engine.proofs.Outcomes.{err_as}
-use Rattle.jl_engine.specs.declared.stops.Stop.TheVariants.{OutFault}
 use Rattle.jl_engine.proofs.engines.EngineState.feed.Goals as goal
 
 pub loop-at-init : goal.loop-at-init
@@ -31,16 +28,16 @@ loop-at-preserved g c =
     let i = c.loop-at.invariant in
     record {
       within = grind (arith, common_steps);
-      live = c.feed_some.ensures.live;
-      goes_on = c.feed_some.ensures.goes_on ∙ i.goes_on;
-      ended = c.feed_some.ensures.ended ∙ i.ended;
+      live = c.feed_some.ensures.goes_on.live;
+      goes_on = c.feed_some.ensures.goes_on.stopped ∙ i.goes_on;
+      ended = c.feed_some.ensures.goes_on.ended ∙ i.ended;
       fed = λ s bytes quads h.
           let a = i.fed s bytes quads h in
           part-fed s bytes quads piece c.loop-at.at c.in-Ok.n c.loop-at.self c.feed_some.new.self t0 t1 t2 (g.O.QuadOut.selects c.args.out.now) s1 i.selects a
           (subst (λ p. Fed s (bytes ++ take c.loop-at.at piece) (quads ++ a.more) (take c.in-Ok.n p) c.feed_some.new.self t1 t2 s1) (rest_is piece c.loop-at.at) (c.in-Ok.ensures.fed s (bytes ++ take c.loop-at.at piece) (quads ++ a.more) a.stands));
-      selects = λ q. c.feed_some.ensures.selects q ∙ i.selects q;
+      selects = λ q. c.feed_some.ensures.out.test q ∙ i.selects q;
       counted = search rules;
-      beside = g.met.O.QuadOut.joins c.args.out.now c.loop-at.out c.feed_some.new.out i.beside c.feed_some.ensures.beside;
+      beside = g.met.O.QuadOut.joins c.args.out.now c.loop-at.out c.feed_some.new.out i.beside c.feed_some.ensures.out.kept;
     }
 
 pub returns-in-Err-clause-stopped : goal.returns-in-Err-clause-stopped
@@ -56,13 +53,3 @@ returns-in-Err-clause-stopped g c = λ s bytes quads h.
 pub returns-clause-fed : goal.returns-clause-fed
 returns-clause-fed g c = λ s bytes quads h.
     whole-fed s bytes quads c.args.piece.now c.loop-at.at c.loop-at.self (g.O.QuadOut.tells c.args.out.now) (g.O.QuadOut.tells c.loop-at.out) (g.O.QuadOut.selects c.args.out.now) c.loop-at-test.false (c.loop-at.invariant.fed s bytes quads h)
-
-pub returns-in-Err-clause-cause : goal.returns-in-Err-clause-cause
-returns-in-Err-clause-cause g c =
-    let m = g.O.QuadOut.faults c.args.out.now in
-    let n = g.O.QuadOut.faults c.feed_some.new.out in
-    cause_as m n _ _ (err_as c.in-Err.stop OutFault) (err_as c.in-Err.stop OutFault)
-    (cause_after m (g.O.QuadOut.faults c.loop-at.out) n _ c.loop-at.invariant.counted c.in-Err.ensures.cause)
-
-pub returns-clause-cause : goal.returns-clause-cause
-returns-clause-cause g c = cause_none (g.O.QuadOut.faults c.args.out.now) (g.O.QuadOut.faults c.loop-at.out) _ c.loop-at.invariant.counted (λ e. cc)

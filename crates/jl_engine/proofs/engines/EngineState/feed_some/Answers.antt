@@ -19,7 +19,7 @@ returns-in-Nothing-clause-fed g c = λ s bytes quads h.
     let runs = c.in-Nothing.ensures.reached h.lexer.goes_on in
     subst (λ p. Fed s bytes quads p new (g.O.QuadOut.tells c.args.out.now) (g.O.QuadOut.tells c.args.out.now) (g.O.QuadOut.selects c.args.out.now)) (sym (take_all (length piece) piece (let l : length piece ≤ length piece = omega arith in l)))
     (fed-run s bytes quads piece new (g.O.QuadOut.tells c.args.out.now) (g.O.QuadOut.selects c.args.out.now)
-    (run-stands s bytes quads piece old new h runs c.next.ensures.still_live refl refl refl
+    (run-stands s bytes quads piece old new h runs c.next.ensures.still_live refl refl
     (run_more bytes piece h.tokens c.next.new.self c.place-self.result old.bytes (runs 0 bytes h.tokens h.lexer) h.count c.place-self.ensures.place) h.goes_on h.going))
 
 pub returns-in-Ok-clause-fed : goal.returns-in-Ok-clause-fed
@@ -39,7 +39,7 @@ returns-in-Ok-clause-fed g c = λ s bytes quads h.
     last_more bytes r.front r.last _ lexer c.place-self-in-Completes.result old.bytes (takes 0 (bytes ++ r.front) h.tokens (r.runs 0 bytes h.tokens h.lexer)) h.count c.place-self-in-Completes.ensures.place in
     let last : Fed s (bytes ++ r.front) quads (r.last ∷ []) new t0 t1 selects =
     byte-kept s (bytes ++ r.front) quads r.last (told c.in-Completes.signs c.saturating_sub.result lexer.reading) before mid new t0 t1 selects (run-before s bytes quads r.front old r.before h r.runs r.live)
-    takes c.next.ensures.still_live refl count refl refl c.say.ensures.kept c.in-Ok.ensures.cursor c.in-Ok.ensures.says in
+    takes c.next.ensures.still_live refl count refl refl c.in-Ok.ensures.says.kept c.in-Ok.ensures.says.says in
     subst (λ p. Fed s bytes quads p new t0 t1 selects) (sym r.bytes_are) (run-fed s bytes quads r.front (r.last ∷ []) new t0 t1 selects last)
 
 pub returns-in-Err-clause-stopped : goal.returns-in-Err-clause-stopped
@@ -60,7 +60,7 @@ returns-in-Err-clause-stopped g c = λ s bytes quads h.
     last_more bytes r.front r.last _ lexer c.place-self-in-Completes.result old.bytes (takes 0 (bytes ++ r.front) h.tokens (r.runs 0 bytes h.tokens h.lexer)) h.count c.place-self-in-Completes.ensures.place in
     let last : Stopped s (bytes ++ r.front) quads (r.last ∷ []) stop new t0 t1 selects =
     byte-unsaid s (bytes ++ r.front) quads r.last (told c.in-Completes.signs c.saturating_sub.result lexer.reading) stop before new lexer t0 t1 selects (run-before s bytes quads r.front old r.before h r.runs r.live)
-    takes (kept-bytes mid new c.say.ensures.kept ∙ count) c.in-Err.ensures.some c.in-Err.ensures.stop in
+    takes (kept-bytes mid new c.in-Err.ensures.says.kept ∙ count) c.in-Err.ensures.says.says.0 c.in-Err.ensures.says.says.1 in
     front-stopped s bytes quads c.in-Completes.count c.args.piece.now stop new t0 t1 selects
     (subst (λ p. Stopped s bytes quads p stop new t0 t1 selects) (sym r.bytes_are) (run-stopped s bytes quads r.front (r.last ∷ []) stop new t0 t1 selects last))
 

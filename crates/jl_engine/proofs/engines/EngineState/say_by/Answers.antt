@@ -1,34 +1,13 @@
-use Rattle.std.proofs.Common.{subst, sym}
-use Rattle.jl_context.specs.Contexts.{context_of}
 use Rattle.jl_token.specs.Lexed.{told}
-use Rattle.jl_engine.specs.Saying.{StopsSaying}
-use Rattle.jl_engine.specs.Translation.{events_step}
-use Rattle.jl_engine.specs.TreeEvents.{events_of}
-use Rattle.jl_engine.proofs.Outcomes.{on_ok, on_err, if_err_too}
-use Rattle.jl_engine.proofs.Saying.{facts_stop, outside_stops, said_all, said_some, said_nothing}
+use Rattle.jl_engine.proofs.Saying.{says_told, says_none}
 use Rattle.jl_engine.proofs.engines.EngineState.say_by.Goals as goal
-
-pub returns-in-Err-clause-some : goal.returns-in-Err-clause-some
-returns-in-Err-clause-some g c =
-    said_nothing (events_step (context_of c.args.self.now.context) (events_of (told c.args.signs c.args.at c.args.self.now.lexer.reading)) c.args.self.now.cursor).0 c.args.self.now.stack (g.O.QuadOut.tells c.args.out.now) (g.O.QuadOut.selects c.args.out.now)
-
-pub returns-in-Err-clause-stop : goal.returns-in-Err-clause-stop
-returns-in-Err-clause-stop g c =
-    let facts = (events_step (context_of c.args.self.now.context) (events_of (told c.args.signs c.args.at c.args.self.now.lexer.reading)) c.args.self.now.cursor).0 in
-    subst (StopsSaying facts c.args.self.now.stack) (sym c.of_facts.ensures) (facts_stop c.in-Err.stop facts c.args.quads.now c.args.self.now.stack c.requires c.in-Err.ensures.stops)
 
 pub returns-in-Ok-clause-says : goal.returns-in-Ok-clause-says
 returns-in-Ok-clause-says g c =
-    let facts = (events_step (context_of c.args.self.now.context) (events_of (told c.args.signs c.args.at c.args.self.now.lexer.reading)) c.args.self.now.cursor).0 in
-    on_ok c.put_all.result (said_all facts c.args.self.now.stack c.tell_signs.new.self.stack c.args.quads.now c.tell_signs.new.quads (g.O.QuadOut.tells c.args.out.now) (g.O.QuadOut.tells c.put_all.new.out) (g.O.QuadOut.selects c.args.out.now) c.requires c.in-Ok.ensures.told)
-    c.put_all.ensures.put
+    says_told c.put_all.result (told c.args.signs c.args.at c.args.self.now.lexer.reading) c.args.self.now c.tell_signs.new.self c.args.quads.now c.tell_signs.new.quads
+    g.O.QuadOut.tells g.O.QuadOut.selects c.args.out.now c.put_all.new.out c.requires c.in-Ok.ensures c.put_all.ensures.put
 
-pub returns-in-Ok-clause-some : goal.returns-in-Ok-clause-some
-returns-in-Ok-clause-some g c =
-    let facts = (events_step (context_of c.args.self.now.context) (events_of (told c.args.signs c.args.at c.args.self.now.lexer.reading)) c.args.self.now.cursor).0 in
-    on_err c.put_all.result (said_some facts c.args.self.now.stack c.tell_signs.new.self.stack c.args.quads.now c.tell_signs.new.quads (g.O.QuadOut.tells c.args.out.now) (g.O.QuadOut.tells c.put_all.new.out) (g.O.QuadOut.selects c.args.out.now) c.requires c.in-Ok.ensures.told)
-    c.put_all.ensures.some
-
-pub returns-in-Ok-clause-stop : goal.returns-in-Ok-clause-stop
-returns-in-Ok-clause-stop g c =
-    if_err_too c.put_all.result (λ stop h. outside_stops stop (events_step (context_of c.args.self.now.context) (events_of (told c.args.signs c.args.at c.args.self.now.lexer.reading)) c.args.self.now.cursor).0 c.args.self.now.stack h) c.put_all.ensures.stop
+pub returns-in-Err-clause-says : goal.returns-in-Err-clause-says
+returns-in-Err-clause-says g c =
+    says_none c.in-Err.stop c.of_reader.result (told c.args.signs c.args.at c.args.self.now.lexer.reading) c.args.self.now c.tell_signs.new.self c.args.quads.now c.tell_signs.new.quads
+    g.O.QuadOut.tells g.O.QuadOut.selects c.args.out.now c.of_reader.ensures c.in-Err.ensures

@@ -1,0 +1,282 @@
+-- A key comes: it is late, or of a form that isn't built, or it collides, or its value is expected.
+use Rattle.std.proofs.Common.{ℕ, ◌≡◌, refl, sym, ◌∙◌, ap, subst, Bool, true, false, ◌&&◌, ◌||◌, List, [], ◌∷◌, ◌++◌, Option, Some, None, Ok, Err}
+use Rattle.jl_model.specs.declared.codes.Code.TheVariants as code
+use Rattle.jl_model.specs.declared.faults.Fault.{Fault}
+use Rattle.jl_model.specs.declared.expansions.Expanded.{Expanded}
+use Rattle.jl_defs.specs.Texts.{Text}
+use Rattle.jl_defs.specs.Context.{term, initial}
+use Rattle.jl_defs.specs.IriExpansion.{expand_iri}
+use Rattle.jl_defs.specs.Settings.{Settings}
+use Rattle.jl_defs.specs.Keys.{Key, its_context, id, kind, value, language, direction, index, graph, included, list, set, reverse, nest, other, dropped, property, key_by, key_of, is_id, is_kind, is_value, is_language, is_direction, is_index}
+use Rattle.jl_defs.specs.ObjectContexts.{fault, Inside, is_context_name}
+use Rattle.jl_defs.specs.Kept.{any_key}
+use Rattle.jl_defs.specs.LateKeys.{if_so}
+use Rattle.jl_laws.specs.Spots.{Spot}
+use Rattle.jl_walk.specs.Phases.{Phase, in_rest, follow, phase_faults}
+use Rattle.jl_walk.specs.Stage as stage
+use Rattle.jl_walk.specs.Frames.{Expected, property_value, keyword_value, dropped_value, Object, Frame, values, object as object_frame, types, dropped as dropped_frame}
+use Rattle.jl_walk.specs.Keys.{with_keyword, key_of_object, with_phase, take_key}
+use Rattle.jl_walk.specs.Steps as walk
+use Rattle.jl_frames.specs.Answers.{is_built_key}
+use Rattle.jl_frames.specs.Machine as frames
+use Rattle.jl_frames.specs.Machine.{Step, state, after_key}
+use Rattle.jl_frames.specs.Nodes as nodes
+use Rattle.jl_frames.specs.Nodes.{has_come, with_entry, meaning_of, take_once, take_meaning}
+use Rattle.jl_frames.specs.declared.entries.Entries.{Entries}
+use Rattle.jl_frames.specs.declared.keywords.Keyword.{Keyword}
+use Rattle.jl_frames.specs.declared.keywords.Keyword.TheVariants as keyword
+use Rattle.jl_frames.specs.declared.nodes.Node.{Node}
+use Rattle.jl_frames.specs.declared.nodes.Pending.TheVariants as pending
+use Rattle.jl_frames.specs.declared.opens.Open.{Open}
+use Rattle.jl_frames.specs.declared.opens.Open.TheVariants as opens
+use Rattle.jl_frames.specs.declared.values.ValueParts.{ValueParts}
+use Rattle.jl_frames.proofs.Marks.{any-append, entry_of}
+use Rattle.jl_engine.specs.Moves as moves
+use Rattle.jl_engine.specs.Moves.{late_faults, takes_key}
+use Rattle.jl_engine.specs.KeepsFrames.{kept_pending, IsPlainEntry, AreEntries, IsExpected, KeepsParts, KeepsMarks, plain_inside, KeepsAt, KeepsIn, AgreesFrames, AgreesLeading, InRest, node_valued}
+use Rattle.jl_engine.proofs.KeepsMarked.{keyword-marked}
+use Rattle.jl_engine.proofs.KeepsTold.{other-entry, entry-added, its-marks}
+use Rattle.jl_engine.proofs.KeepsLater.{is_own, same-built, same-own, not-late}
+
+-- ---- an object that expects a value
+
+or-true : (a : Bool) → (a || true) ≡ true
+or-true true = refl
+or-true false = refl
+
+or-left : (a b : Bool) → (a || b) ≡ false → a ≡ false
+or-left true b e = absurd cc
+or-left false b e = refl
+
+expecting-parts : (v : Bool) (o : Object) (ps : ValueParts) (ks : List Key) (x : Expected) → (v ≡ false → any_key is_value ks ≡ false) → KeepsParts v o ps →
+    KeepsParts v (record o { entries = ks; expects = x }) ps
+expecting-parts true o ps ks x e h = h
+expecting-parts false o ps ks x e h = e refl
+
+expects-at : (s : Settings) (p : Spot) (i : Inside) (o : Object) (k : List Frame) (n : Node) (ks : List Key) (es : Entries) (x : Expected) (h : KeepsAt s false p i o k n) → KeepsMarks es ks → AreEntries ks →
+    IsExpected x ks → (h.keeps.valued ≡ false → any_key is_value ks ≡ false) → (any_key is_kind ks ≡ false → any_key is_kind o.entries ≡ false) →
+    KeepsAt s false p i (record o { entries = ks; expects = x }) k (record n { entries = es; pending = kept_pending x })
+expects-at s p i o k n ks es x h m a e v t = record {
+  plain = h.plain;
+  round = h.round;
+  keeps = record {
+    valued = h.keeps.valued;
+    entries = es;
+    parts = h.keeps.parts;
+    same = ap {B = Node} (λ z. record z { entries = es; pending = kept_pending x }) h.keeps.same;
+    in_main = h.keeps.in_main;
+    expected = e;
+    marks = m;
+    are_entries = a;
+    its_parts = expecting-parts h.keeps.valued o h.keeps.parts ks x v h.keeps.its_parts;
+    typed = λ none. h.keeps.typed (t none);
+  };
+  no_json = h.no_json;
+}
+
+-- a value object, where it has an entry for its value
+has-value : (v : Bool) (o : Object) (ps : ValueParts) → KeepsParts v o ps → v ≡ false → any_key is_value o.entries ≡ false
+has-value true o ps h e = absurd cc
+has-value false o ps h e = h
+
+no-entry : (s : Settings) (p : Spot) (i : Inside) (o : Object) (k : List Frame) (n : Node) (x : Expected) (h : KeepsAt s false p i o k n) → IsExpected x o.entries →
+    KeepsAt s false p i (record o { expects = x }) k (record n { pending = kept_pending x })
+no-entry s p i o k n x h e =
+    expects-at s p i o k n o.entries n.entries x h (its-marks s false p i o k n h) h.keeps.are_entries e (has-value h.keeps.valued o h.keeps.parts h.keeps.its_parts) (λ none. none)
+
+entry-at : (s : Settings) (p : Spot) (i : Inside) (o : Object) (k : List Frame) (n : Node) (q : Keyword) (at : ℕ) (h : KeepsAt s false p i o k n) → IsPlainEntry (entry_of q) →
+    (is_language (entry_of q) && any_key is_language o.entries) ≡ false → IsExpected (keyword_value (entry_of q) at) (o.entries ++ entry_of q ∷ []) →
+    (h.keeps.valued ≡ false → any_key is_value (o.entries ++ entry_of q ∷ []) ≡ false) →
+    KeepsAt s false p i (with_keyword (entry_of q) at o) k (record n { entries = with_entry q n.entries; pending = kept_pending (keyword_value (entry_of q) at) })
+entry-at s p i o k n q at h plain one e v =
+    expects-at s p i o k n (o.entries ++ entry_of q ∷ []) (with_entry q n.entries) (keyword_value (entry_of q) at) h (keyword-marked q n.entries o.entries (its-marks s false p i o k n h))
+    (entry-added o.entries (entry_of q) h.keeps.are_entries plain one) e v
+    (λ none. or-left (any_key is_kind o.entries) (is_kind (entry_of q)) (sym (any-append is_kind o.entries (entry_of q)) ∙ none))
+
+-- the entry of another keyword than `@value`
+no-value : (s : Settings) (p : Spot) (i : Inside) (o : Object) (k : List Frame) (n : Node) (q : Key) (h : KeepsAt s false p i o k n) → is_value q ≡ false →
+    h.keeps.valued ≡ false → any_key is_value (o.entries ++ q ∷ []) ≡ false
+no-value s p i o k n q h e v = other-entry is_value o.entries q e ∙ has-value h.keeps.valued o h.keeps.parts h.keeps.its_parts v
+
+comes : (t : Key → Bool) (ks : List Key) (q : Key) → t q ≡ true → any_key t (ks ++ q ∷ []) ≡ true
+comes t ks q e = any-append t ks q ∙ (ap (λ b. any_key t ks || b) e ∙ or-true (any_key t ks))
+
+-- ---- a key of an object
+
+-- a keyword that may come once
+once : (s : Settings) (b c : Bool) (at : ℕ) (p : Spot) (i : Inside) (o : Object) (k : List Frame) (n : Node) (outer : Option Node) (opened : List Open) (q : Keyword) → KeepsIn s false k outer opened → n.valued ≡ b →
+    pending.Keyword at q ≡ kept_pending (keyword_value (entry_of q) at) →
+    (c ≡ false → KeepsAt s false p i (with_keyword (entry_of q) at o) k (record n { entries = with_entry q n.entries; pending = kept_pending (keyword_value (entry_of q) at) })) →
+    AgreesLeading s b (walk.unless_fault (if_so c (fault code.CollidingKeywords at ∷ [])) (λ _. walk.quiet (object_frame p i (with_keyword (entry_of q) at o) ∷ k)))
+    (after_key (take_once c at q n) (opens.Object outer ∷ opened))
+once s b true at p i o k n outer opened q r y w f = refl
+once s b false at p i o k n outer opened q r y w f = (
+  state (Some (record n { entries = with_entry q n.entries; pending = kept_pending (keyword_value (entry_of q) at) })) (opens.Object outer ∷ opened),
+  (
+    ap {B = Step} (λ z. Ok ([], state (Some (record n { entries = with_entry q n.entries; pending = z })) (opens.Object outer ∷ opened))) w,
+    ((refl, (f refl, r)), y),
+  ),
+)
+
+pub key-agrees : (s : Settings) (b : Bool) (q : Key) (at : ℕ) (name : Text) (p : Spot) (i : Inside) (o : Object) (k : List Frame) (n : Node) (outer : Option Node) (opened : List Open) → KeepsAt s false p i o k n →
+    KeepsIn s false k outer opened → n.valued ≡ b → (is_value q ≡ true → b ≡ true) →
+    AgreesLeading s b (key_of_object q None at name p i o k) (moves.if_built (stage.is_built_key q None) at (λ _. after_key (take_meaning (meaning_of q) at n) (opens.Object outer ∷ opened)))
+key-agrees s b q at name p i o k n outer opened h r y v = by q v
+  where
+    m : KeepsMarks n.entries o.entries
+    m = its-marks s false p i o k n h
+
+    dropped-goes : AgreesLeading s b (walk.quiet (object_frame p i (record o { expects = dropped_value }) ∷ k)) (after_key (Ok (record n { pending = pending.Ignored })) (opens.Object outer ∷ opened))
+    dropped-goes = (state (Some (record n { pending = pending.Ignored })) (opens.Object outer ∷ opened), (refl, ((refl, (no-entry s p i o k n dropped_value h tt, r)), y)))
+
+    -- whether it has come, by its mark
+    collides-as : (q : Keyword) (c : Bool) → has_come q n.entries ≡ c →
+        AgreesLeading s b (walk.unless_fault (if_so c (fault code.CollidingKeywords at ∷ [])) (λ _. walk.quiet (object_frame p i (with_keyword (entry_of q) at o) ∷ k)))
+        (after_key (take_once c at q n) (opens.Object outer ∷ opened)) →
+        AgreesLeading s b (walk.unless_fault (if_so c (fault code.CollidingKeywords at ∷ [])) (λ _. walk.quiet (object_frame p i (with_keyword (entry_of q) at o) ∷ k)))
+        (after_key (take_once (has_come q n.entries) at q n) (opens.Object outer ∷ opened))
+    collides-as q c e a =
+        subst (λ d. AgreesLeading s b (walk.unless_fault (if_so c (fault code.CollidingKeywords at ∷ [])) (λ _. walk.quiet (object_frame p i (with_keyword (entry_of q) at o) ∷ k)))
+        (after_key (take_once d at q n) (opens.Object outer ∷ opened))) (sym e) a
+
+    by : (q : Key) → (is_value q ≡ true → b ≡ true) →
+        AgreesLeading s b (key_of_object q None at name p i o k) (moves.if_built (stage.is_built_key q None) at (λ _. after_key (take_meaning (meaning_of q) at n) (opens.Object outer ∷ opened)))
+    by its_context v = dropped-goes
+    by id v = collides-as keyword.Id (any_key is_id o.entries) m.id
+        (once s b (any_key is_id o.entries) at p i o k n outer opened keyword.Id r y refl (λ e. entry-at s p i o k n keyword.Id at h tt refl tt (no-value s p i o k n id h refl)))
+    by kind v =
+        once s b false at p i o k n outer opened keyword.Kind r y refl
+        (λ e. entry-at s p i o k n keyword.Kind at h tt refl (comes is_kind o.entries kind refl) (no-value s p i o k n kind h refl))
+    by value v = collides-as keyword.Value (any_key is_value o.entries) m.value
+        (once s b (any_key is_value o.entries) at p i o k n outer opened keyword.Value r y refl
+        (λ e. entry-at s p i o k n keyword.Value at h tt refl (comes is_value o.entries value refl)
+        (λ no-value-here. absurd (let both : true ≡ false = sym (v refl) ∙ (sym y ∙ (ap (λ z. z.valued) h.keeps.same ∙ no-value-here)) in cc))))
+    by language v = collides-as keyword.Language (any_key is_language o.entries) m.language
+        (once s b (any_key is_language o.entries) at p i o k n outer opened keyword.Language r y refl (λ e. entry-at s p i o k n keyword.Language at h tt e tt (no-value s p i o k n language h refl)))
+    by direction v = collides-as keyword.Direction (any_key is_direction o.entries) m.direction
+        (once s b (any_key is_direction o.entries) at p i o k n outer opened keyword.Direction r y refl (λ e. entry-at s p i o k n keyword.Direction at h tt refl tt (no-value s p i o k n direction h refl)))
+    by index v = collides-as keyword.Index (any_key is_index o.entries) m.index
+        (once s b (any_key is_index o.entries) at p i o k n outer opened keyword.Index r y refl (λ e. entry-at s p i o k n keyword.Index at h tt refl tt (no-value s p i o k n index h refl)))
+    by graph v = refl
+    by included v = refl
+    by list v = refl
+    by set v = refl
+    by reverse v = refl
+    by nest v = refl
+    by other v = dropped-goes
+    by dropped v = dropped-goes
+    by (property iri) v = (state (Some (record n { pending = pending.Property iri })) (opens.Object outer ∷ opened), (refl, ((refl, (no-entry s p i o k n (property_value name iri) h tt, r)), y)))
+
+-- ---- a key as it is told
+
+phase-parts : (v : Bool) (o : Object) (ps : ValueParts) (ph : Phase) → KeepsParts v o ps → KeepsParts v (with_phase ph o) ps
+phase-parts true o ps ph h = h
+phase-parts false o ps ph h = h
+
+-- another phase is not kept
+phase-at : (s : Settings) (held : Bool) (p : Spot) (i : Inside) (o : Object) (k : List Frame) (n : Node) (ph : Phase) → KeepsAt s held p i o k n → KeepsAt s held p i (with_phase ph o) k n
+phase-at s held p i o k n ph h = record {
+  plain = h.plain;
+  round = h.round;
+  keeps = record {
+    valued = h.keeps.valued;
+    entries = h.keeps.entries;
+    parts = h.keeps.parts;
+    same = h.keeps.same;
+    in_main = h.keeps.in_main;
+    expected = h.keeps.expected;
+    marks = h.keeps.marks;
+    are_entries = h.keeps.are_entries;
+    its_parts = phase-parts h.keeps.valued o h.keeps.parts ph h.keeps.its_parts;
+    typed = h.keeps.typed;
+  };
+  no_json = h.no_json;
+}
+
+-- what a key that isn't late does to the stack
+told-key : Settings → ℕ → Text → Node → List Open → Step
+told-key s at name n opened =
+    moves.if_built (is_built_key (expand_iri (initial s.base) name true false)) at (λ _. frames.key (record { at = at; expanded = expand_iri (initial s.base) name true false }) (state (Some n) opened))
+
+decided-key : (s : Settings) (b : Bool) (e : Expanded) (at : ℕ) (name : Text) (p : Spot) (i : Inside) (o : Object) (k : List Frame) (n : Node) (outer : Option Node) (opened : List Open) → KeepsAt s false p i o k n →
+    KeepsIn s false k outer opened → n.valued ≡ b → is_own (key_by e) ≡ false → (is_value (key_by e) ≡ true → b ≡ true) →
+    AgreesLeading s b (key_of_object (key_by e) None at name p i o k)
+    (moves.if_built (is_built_key e) at (λ _. frames.key (record { at = at; expanded = e }) (state (Some n) (opens.Object outer ∷ opened))))
+unfolding frames.key nodes.take_key
+decided-key s b e at name p i o k n outer opened h r y own v =
+    subst (λ z. AgreesLeading s b (key_of_object (key_by e) None at name p i o k) (moves.if_built z at (λ _. after_key (take_meaning (meaning_of (key_by e)) at n) (opens.Object outer ∷ opened))))
+    (sym (same-built e own)) (key-agrees s b (key_by e) at name p i o k n outer opened h r y v)
+
+-- in the context of its object
+key-in-object : (s : Settings) (b : Bool) (at : ℕ) (name : Text) (p : Spot) (i : Inside) (o : Object) (k : List Frame) (n : Node) (outer : Option Node) (opened : List Open) → KeepsAt s false p i o k n →
+    KeepsIn s false k outer opened → n.valued ≡ b → is_own (key_of (initial s.base) name) ≡ false → (is_value (key_of (initial s.base) name) ≡ true → b ≡ true) →
+    AgreesLeading s b (key_of_object (key_of i.final name) (term i.final name) at name p i (with_phase (follow o.phase i name) o) k) (told-key s at name n (opens.Object outer ∷ opened))
+unfolding key_of told-key
+key-in-object s b at name p i o k n outer opened h r y own v =
+    subst (λ c. AgreesLeading s b (key_of_object (key_of c name) (term c name) at name p i (with_phase (follow o.phase i name) o) k) (told-key s at name n (opens.Object outer ∷ opened)))
+    (sym (ap (λ j. j.final) h.plain))
+    (decided-key s b (expand_iri (initial s.base) name true false) at name p i (with_phase (follow o.phase i name) o) k n outer opened (phase-at s false p i o k n (follow o.phase i name) h) r y own v)
+
+-- a leading key is told again as it was held
+pub leading-key : (s : Settings) (b : Bool) (at : ℕ) (name : Text) (p : Spot) (i : Inside) (o : Object) (k : List Frame) (n : Option Node) (opened : List Open) →
+    KeepsIn s false (object_frame p i o ∷ k) n opened → node_valued n ≡ b → phase_faults o.phase i name at ≡ [] → is_context_name name ≡ false →
+    (is_value (key_of (initial s.base) name) ≡ true → b ≡ true) →
+    AgreesLeading s b (take_key at name (object_frame p i o ∷ k)) (takes_key (initial s.base) true at name (state n opened))
+unfolding take_key told-key
+leading-key s b at name p i o k (Some n) (opens.Object outer ∷ opened) h y ph c v =
+    subst (λ fs. AgreesLeading s b (walk.unless_fault fs (λ _. key_of_object (key_of i.final name) (term i.final name) at name p i (with_phase (follow o.phase i name) o) k)) (told-key s at name n (opens.Object outer ∷ opened)))
+    (sym ph) (key-in-object s b at name p i o k n outer opened h.0 h.1 y (sym (same-own s.base name) ∙ c) v)
+leading-key s b at name p i o k n opened h y ph c v = absurd h
+
+-- ---- a key of the rest
+
+pub agrees-frames : (s : Settings) (b : Bool) (r : walk.Step) (t : Step) → AgreesLeading s b r t → AgreesFrames s r t
+agrees-frames s b (Ok r) t h = (h.0, (h.1.0, h.1.1.0))
+agrees-frames s b (Err f) t h = h
+
+-- what makes a key of the rest late
+abbrev late_list : Key → Bool → ℕ → List Fault
+late_list q own at =
+    if_so own (fault code.LateContext at ∷ [])
+    ++ ([] ++ (if_so (is_kind q || is_kind q) (fault code.LateType at ∷ [])
+    ++ (if_so (is_id q) (fault code.LateIdentifier at ∷ []) ++ if_so (is_value q || (false && is_value q)) (fault code.LateValue at ∷ []))))
+
+late-agrees : (s : Settings) (q : Key) (at : ℕ) (next : Unit {0} → walk.Step) (then : Unit {0} → Step) → (late_faults q at ≡ [] → AgreesFrames s (next tt) (then tt)) →
+    AgreesFrames s (walk.unless_fault (late_list q (is_own q) at) next) (moves.unless (late_faults q at) then)
+late-agrees s its_context at next then f = refl
+late-agrees s id at next then f = refl
+late-agrees s kind at next then f = refl
+late-agrees s value at next then f = refl
+late-agrees s q at next then f = f refl
+
+rest-faults : (s : Settings) (i : Inside) (o : Object) (name : Text) (at : ℕ) → i ≡ plain_inside s i.input → o.phase ≡ in_rest →
+    phase_faults o.phase i name at ≡ late_list (key_of (initial s.base) name) (is_own (key_of (initial s.base) name)) at
+rest-faults s i o name at e ph =
+    ap (λ x. phase_faults x i name at) ph
+    ∙ (ap (λ j. phase_faults in_rest j name at) e
+    ∙ ap (λ b. late_list (key_of (initial s.base) name) b at) (same-own s.base name))
+
+rest-key : (s : Settings) (at : ℕ) (name : Text) (p : Spot) (i : Inside) (o : Object) (k : List Frame) (n : Node) (outer : Option Node) (opened : List Open) → KeepsAt s false p i o k n →
+    KeepsIn s false k outer opened → o.phase ≡ in_rest →
+    AgreesFrames s (take_key at name (object_frame p i o ∷ k)) (takes_key (initial s.base) false at name (state (Some n) (opens.Object outer ∷ opened)))
+unfolding take_key told-key
+rest-key s at name p i o k n outer opened h r ph =
+    subst (λ fs. AgreesFrames s (walk.unless_fault fs (λ _. key_of_object (key_of i.final name) (term i.final name) at name p i (with_phase (follow o.phase i name) o) k))
+    (takes_key (initial s.base) false at name (state (Some n) (opens.Object outer ∷ opened))))
+    (sym (rest-faults s i o name at h.plain ph))
+    (late-agrees s (key_of (initial s.base) name) at (λ _. key_of_object (key_of i.final name) (term i.final name) at name p i (with_phase (follow o.phase i name) o) k)
+    (λ _. told-key s at name n (opens.Object outer ∷ opened))
+    (λ e. agrees-frames s n.valued (key_of_object (key_of i.final name) (term i.final name) at name p i (with_phase (follow o.phase i name) o) k) (told-key s at name n (opens.Object outer ∷ opened))
+    (key-in-object s n.valued at name p i o k n outer opened h r refl (not-late (key_of (initial s.base) name) at e).0
+    (λ yes. absurd (let both : true ≡ false = sym yes ∙ (not-late (key_of (initial s.base) name) at e).1 in cc)))))
+
+pub key-comes : (s : Settings) (at : ℕ) (name : Text) (k : List Frame) (n : Option Node) (opened : List Open) → KeepsIn s false k n opened → InRest k →
+    AgreesFrames s (take_key at name k) (takes_key (initial s.base) false at name (state n opened))
+unfolding take_key
+key-comes s at name [] n opened h r = absurd h
+key-comes s at name (values p ∷ []) None [] h r = (state None [], (refl, (refl, h)))
+key-comes s at name (values p ∷ (f ∷ k)) n (opens.Array ∷ opened) h r = (state n (opens.Array ∷ opened), (refl, (refl, h)))
+key-comes s at name (object_frame p i o ∷ k) (Some n) (opens.Object outer ∷ opened) h r = rest-key s at name p i o k n outer opened h.0 h.1 r
+key-comes s at name (types b m g key_at ∷ k) n (opens.Array ∷ opened) h r = (state n (opens.Array ∷ opened), (refl, (refl, h)))
+key-comes s at name (dropped_frame ∷ k) n (opens.Dropped ∷ opened) h r = (state n (opens.Dropped ∷ opened), (refl, (refl, h)))
+key-comes s at name k n opened h r = absurd h

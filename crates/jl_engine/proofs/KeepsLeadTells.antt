@@ -1,0 +1,252 @@
+-- The members that were held are told to the stack as they are fed to the frames, or both stop at the same fault.
+use Rattle.std.proofs.Common.{ℕ, ◌≡◌, refl, sym, ◌∙◌, ap, subst, Bool, true, false, not, ◌&&◌, ◌||◌, List, [], ◌∷◌, ◌++◌, Option, Some, is_some, Err}
+use Rattle.std.specs.Prelude.{zero, suc}
+use Rattle.jl_model.specs.JsonTree.{Tree, scalar, array, object, Trees, no_item, item, Members, no_member, member}
+use Rattle.jl_model.specs.declared.scalars.Scalar.{Scalar}
+use Rattle.jl_model.specs.declared.codes.Code.TheVariants as code
+use Rattle.jl_model.specs.declared.faults.Fault.{Fault}
+use Rattle.jl_model.specs.declared.expansions.Expanded.{Expanded}
+use Rattle.jl_defs.specs.Texts.{Text}
+use Rattle.jl_defs.specs.Context.{initial}
+use Rattle.jl_defs.specs.Settings.{Settings}
+use Rattle.jl_defs.specs.Keys.{key_of, is_leading, is_kind, is_value}
+use Rattle.jl_defs.specs.LateKeys.{if_so}
+use Rattle.jl_defs.specs.ObjectContexts.{fault, Inside, is_context_name, is_in_prelude}
+use Rattle.jl_defs.specs.ValueObjects.{first_with}
+use Rattle.jl_laws.specs.Spots.{Spot}
+use Rattle.jl_walk.specs.Phases.{Phase, at_start, in_lead, in_run, run_until, follow, rest_at, phase_faults, prelude_length}
+use Rattle.jl_walk.specs.Frames.{no_value, keyword_value, Frame}
+use Rattle.jl_walk.specs.Steps.{Step, after_quads, then_goes}
+use Rattle.jl_walk.specs.Scalars.{take_scalar}
+use Rattle.jl_walk.specs.Opening.{open_array}
+use Rattle.jl_walk.specs.Keys.{take_key}
+use Rattle.jl_walk.specs.Ending.{close}
+use Rattle.jl_walk.specs.Feeding.{feed, feed_items, feed_members, decided}
+use Rattle.jl_walk.proofs.Members.{then-assoc}
+use Rattle.jl_walk.proofs.HeldMembers.{then-same, after-none}
+use Rattle.jl_engine.specs.Reading.{Read, then_reads, at_step, replay}
+use Rattle.jl_engine.specs.KeepsFrames.{plain_inside}
+use Rattle.jl_engine.specs.Keeping.{Told, HeldArray, Held, KeysLead, all_lead}
+use Rattle.jl_engine.specs.declared.events.Event.{Event}
+use Rattle.jl_engine.specs.declared.events.Event.TheVariants as events
+use Rattle.jl_engine.specs.declared.readers.Reader.{Reader}
+use Rattle.jl_engine.proofs.KeepsLeadAgrees.{AgreesTo, agrees-then}
+use Rattle.jl_engine.proofs.KeepsLeadFeeds.{leads-no-context, OnObject, OnTypes, leading-key, leading-scalar, leading-types, types-scalar, types-array, types-object, leading-close, leading-array, leading-object}
+
+-- ---- the phases of keys that lead
+
+abbrev pub lead_phase : Bool → ℕ → Phase
+lead_phase true left = at_start left
+lead_phase false left = in_lead left
+
+-- a key that leads stays in the second run
+pub leads-run : (s : Settings) (input : Expanded) (n : Text) → is_leading (key_of (initial s.base) n) ≡ true → follow (in_lead zero) (plain_inside s input) n ≡ in_run
+leads-run s input n e = ap (λ x. run_until (not x || false)) e
+
+context-none : (n : Text) (a : ℕ) (fs : List Fault) → is_context_name n ≡ false → fs ≡ [] → if_so (is_context_name n) (fault code.LateContext a ∷ []) ++ fs ≡ []
+context-none n a fs e f = ap (λ x. if_so x (fault code.LateContext a ∷ []) ++ fs) e ∙ f
+
+pub leads-fine : (first : Bool) (left : ℕ) (s : Settings) (input : Expanded) (n : Text) (a : ℕ) → is_leading (key_of (initial s.base) n) ≡ true → phase_faults (lead_phase first left) (plain_inside s input) n a ≡ []
+leads-fine true zero s input n a e = ap (λ x. rest_at x (plain_inside s input) n a) (leads-run s input n e)
+leads-fine true (suc left) s input n a e = refl
+leads-fine false zero s input n a e =
+    context-none n a (rest_at (follow (in_lead zero) (plain_inside s input) n) (plain_inside s input) n a) (leads-no-context s.base n e) (ap (λ x. rest_at x (plain_inside s input) n a) (leads-run s input n e))
+leads-fine false (suc left) s input n a e = context-none n a [] (leads-no-context s.base n e) refl
+
+pub leads-on : (first : Bool) (left : ℕ) (s : Settings) (input : Expanded) (n : Text) → follow (lead_phase first (suc left)) (plain_inside s input) n ≡ in_lead left
+leads-on true left s input n = refl
+leads-on false left s input n = refl
+
+-- ---- values that stop
+
+-- both stop at the same fault
+both-stop : (R : List Frame → Reader → Type 0) (x : Step) (t : Read) (f : List Frame → Step) (g : Reader → Read) (e : Fault) → x ≡ Err e → t ≡ Err e → AgreesTo R (then_goes x f) (then_reads t g)
+both-stop R x t f g e h k = subst (λ y. AgreesTo R (then_goes y f) (then_reads t g)) (sym h) (ap (λ y. then_reads y g) k)
+
+-- ---- types
+
+types-tell : (s : Settings) (p : Spot) (i : Inside) (k : List Frame) (ph : Phase) (v : Bool) (R : List Frame → Reader → Type 0) (xs : Trees) (own after : List Event) (g : List Frame → Step) (l : List Frame) (r : Reader) →
+    Told xs own → OnTypes s p i k ph v l r → ((m : List Frame) (u : Reader) → OnTypes s p i k ph v m u → AgreesTo R (g m) (replay (initial s.base) after u)) →
+    AgreesTo R (then_goes (feed_items s xs l) g) (replay (initial s.base) (own ++ after) r)
+unfolding feed replay
+types-tell s p i k ph v R no_item own after g l r h x next =
+    subst (λ es. AgreesTo R (after_quads [] (g l)) (replay (initial s.base) (es ++ after) r)) (sym h)
+    (subst (λ y. AgreesTo R y (replay (initial s.base) after r)) (sym (after-none (g l))) (next l r x))
+types-tell s p i k ph v R (item (scalar b w) rest) own after g l r h x next =
+    subst (λ es. AgreesTo R (then_goes (then_goes (take_scalar s b w l) (feed_items s rest)) g) (replay (initial s.base) (es ++ after) r)) (sym h.1.0)
+    (subst (λ y. AgreesTo R y (replay (initial s.base) (events.Value b w ∷ (h.0 ++ after)) r)) (sym (then-assoc (take_scalar s b w l) (feed_items s rest) g))
+    (agrees-then (OnTypes s p i k ph v) R (take_scalar s b w l) (at_step (initial s.base) true (events.Value b w) r) (λ m. then_goes (feed_items s rest m) g) (replay (initial s.base) (h.0 ++ after))
+    (types-scalar s b w p i k ph v l r x)
+    (λ m u y. types-tell s p i k ph v R rest h.0 after g m u h.1.1 y next)))
+types-tell s p i k ph v R (item (array b ys) rest) own after g l r h x next =
+    let st = types-array s b p i k ph v l r x in
+    subst (λ es. AgreesTo R (then_goes (then_goes (feed s (array b ys) l) (feed_items s rest)) g) (replay (initial s.base) (es ++ after) r)) (sym h.1)
+    (subst (λ y. AgreesTo R (then_goes (then_goes (then_goes y (λ m. then_goes (feed_items s ys m) close)) (feed_items s rest)) g) (replay (initial s.base) (events.OpensArray b ∷ (h.0 ++ after)) r)) (sym st.1.0)
+    (ap (λ y. then_reads y (replay (initial s.base) (h.0 ++ after))) st.1.1))
+types-tell s p i k ph v R (item (object b ms) rest) own after g l r h x next =
+    let st = types-object s b (decided s b ms) p i k ph v l r x in
+    subst (λ es. AgreesTo R (then_goes (then_goes (feed s (object b ms) l) (feed_items s rest)) g) (replay (initial s.base) (es ++ after) r)) (sym h.1)
+    (subst (λ y. AgreesTo R (then_goes (then_goes (then_goes y (λ m. then_goes (feed_members s ms m) close)) (feed_items s rest)) g) (replay (initial s.base) (events.OpensObject b ∷ (h.0 ++ after)) r)) (sym st.1.0)
+    (ap (λ y. then_reads y (replay (initial s.base) (h.0 ++ after))) st.1.1))
+
+-- ---- members
+
+-- after members that all lead
+abbrev pub AfterMembers : Settings → Spot → Inside → List Frame → Phase → Bool → Bool → List Frame → Reader → Type 0
+AfterMembers s p i k ph v all l r = OnObject s p i k ph no_value v l r × (all ≡ true)
+
+-- a key for a value, and one after it
+value-first : (x : Bool) (v : Tree) (o : Option Tree) (w : Bool) → (is_some (elim x [ true ↦ Some v | false ↦ o ]) ≡ true → w ≡ true) → x ≡ true → w ≡ true
+value-first true v o w f e = f refl
+value-first false v o w f e = absurd cc
+
+value-rest : (x : Bool) (v : Tree) (o : Option Tree) (w : Bool) → (is_some (elim x [ true ↦ Some v | false ↦ o ]) ≡ true → w ≡ true) → is_some o ≡ true → w ≡ true
+value-rest true v o w f e = f refl
+value-rest false v o w f e = f e
+
+-- the key, in a phase in which so many members lead
+abbrev pub KeyTells : Settings → Expanded → Spot → List Frame → Bool → Bool → Members → Type 0
+KeyTells s input p k v first ms =
+    (es : List Event) (l : List Frame) (r : Reader) → Held (initial s.base) ms es → KeysLead (initial s.base) ms → (is_some (first_with is_value (initial s.base) ms) ≡ true → v ≡ true) →
+    OnObject s p (plain_inside s input) k (lead_phase first (prelude_length (initial s.base ∷ []) ms)) no_value v l r →
+    AgreesTo (AfterMembers s p (plain_inside s input) k (in_lead zero) v (all_lead (initial s.base) ms)) (feed_members s ms l) (replay (initial s.base) es r)
+
+-- where it leads, the phase goes on
+lead-phase : (s : Settings) (input : Expanded) (n : Text) (first x : Bool) (left : ℕ) → x ≡ true → follow (lead_phase first (elim x [ true ↦ suc left | false ↦ 0 ])) (plain_inside s input) n ≡ in_lead left
+lead-phase s input n first x left e = ap (λ y. let m : ℕ = elim y [ true ↦ suc left | false ↦ 0 ] in follow (lead_phase first m) (plain_inside s input) n) e ∙ leads-on first left s input n
+
+after-more : (s : Settings) (p : Spot) (i : Inside) (k : List Frame) (ph : Phase) (v x y : Bool) (r : Step) (t : Read) → x ≡ true → AgreesTo (AfterMembers s p i k ph v y) r t → AgreesTo (AfterMembers s p i k ph v (x && y)) r t
+after-more s p i k ph v x y r t e h = subst (λ z. AgreesTo (AfterMembers s p i k ph v (z && y)) r t) (sym e) h
+
+scalar-tells : (s : Settings) (input : Expanded) (p : Spot) (k : List Frame) (v : Bool) (first : Bool) (a : ℕ) (n : Text) (b : ℕ) (w : Scalar) (rest : Members) → KeyTells s input p k v false rest →
+    KeyTells s input p k v first (member a n (scalar b w) rest)
+unfolding feed replay
+scalar-tells s input p k v first a n b w rest next es l r h ks val x =
+    let c = initial s.base in
+    let i = plain_inside s input in
+    let q = key_of c n in
+    let left = prelude_length (c ∷ []) rest in
+    let ph = lead_phase first (prelude_length (c ∷ []) (member a n (scalar b w) rest)) in
+    let leads : is_in_prelude (c ∷ []) n (scalar b w) ≡ true = ap (λ z. z || false) ks.0 in
+    let done = AfterMembers s p i k (in_lead zero) v (all_lead c rest) in
+    subst (λ fs. AgreesTo (AfterMembers s p i k (in_lead zero) v (all_lead c (member a n (scalar b w) rest))) (feed_members s (member a n (scalar b w) rest) l) (replay c fs r)) (sym h.1.0)
+    (after-more s p i k (in_lead zero) v (is_in_prelude (c ∷ []) n (scalar b w)) (all_lead c rest) (feed_members s (member a n (scalar b w) rest) l) (replay c (events.Key a n ∷ (events.Value b w ∷ h.0)) r) leads
+    (agrees-then (OnObject s p i k (in_lead left) (keyword_value q a) v) done (take_key a n l) (at_step c true (events.Key a n) r) (λ m. then_goes (take_scalar s b w m) (feed_members s rest)) (replay c (events.Value b w ∷ h.0))
+    (leading-key s input a n p k ph (in_lead left) v l r ks.0 (value-first (is_value q) (scalar b w) (first_with is_value c rest) v val)
+    (leads-fine first (prelude_length (c ∷ []) (member a n (scalar b w) rest)) s input n a ks.0) (lead-phase s input n first (is_in_prelude (c ∷ []) n (scalar b w)) left leads) x)
+    (λ m u y. agrees-then (OnObject s p i k (in_lead left) no_value v) done (take_scalar s b w m) (at_step c true (events.Value b w) u) (feed_members s rest) (replay c h.0)
+    (leading-scalar s q a b w p i k (in_lead left) v m u y)
+    (λ m2 u2 z. next h.0 m2 u2 h.1.1 ks.1 (value-rest (is_value q) (scalar b w) (first_with is_value c rest) v val) z))))
+
+-- an array of types, and another array
+array-group : (s : Settings) (b : ℕ) (xs : Trees) (g : List Frame → Step) (l : List Frame) →
+    then_goes (feed s (array b xs) l) g ≡ then_goes (open_array b l) (λ m. then_goes (feed_items s xs m) (λ y. then_goes (close y) g))
+unfolding feed
+array-group s b xs g l =
+    then-assoc (open_array b l) (λ m. then_goes (feed_items s xs m) close) g ∙ then-same (open_array b l) _ _ (λ m. then-assoc (feed_items s xs m) close g)
+
+types-member : (s : Settings) (input : Expanded) (p : Spot) (k : List Frame) (v : Bool) (first : Bool) (a : ℕ) (n : Text) (b : ℕ) (xs : Trees) (rest : Members) → KeyTells s input p k v false rest →
+    is_kind (key_of (initial s.base) n) ≡ true →
+    (es own more : List Event) (l : List Frame) (r : Reader) → es ≡ events.Key a n ∷ (events.OpensArray b ∷ (own ++ events.Closes ∷ more)) → Told xs own → Held (initial s.base) rest more →
+    KeysLead (initial s.base) (member a n (array b xs) rest) → (is_some (first_with is_value (initial s.base) (member a n (array b xs) rest)) ≡ true → v ≡ true) →
+    OnObject s p (plain_inside s input) k (lead_phase first (prelude_length (initial s.base ∷ []) (member a n (array b xs) rest))) no_value v l r →
+    AgreesTo (AfterMembers s p (plain_inside s input) k (in_lead zero) v (all_lead (initial s.base) (member a n (array b xs) rest))) (feed_members s (member a n (array b xs) rest) l) (replay (initial s.base) es r)
+unfolding feed replay
+types-member s input p k v first a n b xs rest next kd es own more l r e told held ks val x =
+    let c = initial s.base in
+    let i = plain_inside s input in
+    let q = key_of c n in
+    let left = prelude_length (c ∷ []) rest in
+    let len = prelude_length (c ∷ []) (member a n (array b xs) rest) in
+    let leads : is_in_prelude (c ∷ []) n (array b xs) ≡ true = ap (λ z. z || false) kd in
+    let done = AfterMembers s p i k (in_lead zero) v (all_lead c rest) in
+    let own2 = own ++ events.Closes ∷ more in
+    subst (λ fs. AgreesTo (AfterMembers s p i k (in_lead zero) v (all_lead c (member a n (array b xs) rest))) (feed_members s (member a n (array b xs) rest) l) (replay c fs r)) (sym e)
+    (after-more s p i k (in_lead zero) v (is_in_prelude (c ∷ []) n (array b xs)) (all_lead c rest) (feed_members s (member a n (array b xs) rest) l) (replay c (events.Key a n ∷ (events.OpensArray b ∷ own2)) r) leads
+    (agrees-then (OnObject s p i k (in_lead left) (keyword_value q a) v) done (take_key a n l) (at_step c true (events.Key a n) r) (λ m. then_goes (feed s (array b xs) m) (feed_members s rest)) (replay c (events.OpensArray b ∷ own2))
+    (leading-key s input a n p k (lead_phase first len) (in_lead left) v l r ks.0 (value-first (is_value q) (array b xs) (first_with is_value c rest) v val)
+    (leads-fine first len s input n a ks.0) (lead-phase s input n first (is_in_prelude (c ∷ []) n (array b xs)) left leads) x)
+    (λ m u y. subst (λ z. AgreesTo done z (replay c (events.OpensArray b ∷ own2) u)) (sym (array-group s b xs (feed_members s rest) m))
+    (agrees-then (OnTypes s p i k (in_lead left) v) done (open_array b m) (at_step c true (events.OpensArray b) u) (λ m2. then_goes (feed_items s xs m2) (λ m3. then_goes (close m3) (feed_members s rest))) (replay c own2)
+    (leading-types s q a b p i k (in_lead left) v m u kd y)
+    (λ m2 u2 y2. types-tell s p i k (in_lead left) v done xs own (events.Closes ∷ more) (λ m3. then_goes (close m3) (feed_members s rest)) m2 u2 told y2
+    (λ m3 u3 y3. agrees-then (OnObject s p i k (in_lead left) no_value v) done (close m3) (at_step c true events.Closes u3) (feed_members s rest) (replay c more)
+    (leading-close s p i k (in_lead left) v m3 u3 y3)
+    (λ m4 u4 y4. next more m4 u4 held ks.1 (value-rest (is_value q) (array b xs) (first_with is_value c rest) v val) y4)))))))
+
+-- a member at which the object stops
+stops-member : (s : Settings) (input : Expanded) (p : Spot) (k : List Frame) (v : Bool) (first : Bool) (a : ℕ) (n : Text) (w : Tree) (rest : Members) (e : Event) (R : List Frame → Reader → Type 0) →
+    ((m : List Frame) (u : Reader) (ph : Phase) → OnObject s p (plain_inside s input) k ph (keyword_value (key_of (initial s.base) n) a) v m u →
+    (f : Fault) × ((feed s w m ≡ Err f) × (at_step (initial s.base) true e u ≡ Err f))) →
+    (es more : List Event) (l : List Frame) (r : Reader) → es ≡ events.Key a n ∷ (e ∷ more) →
+    KeysLead (initial s.base) (member a n w rest) → (is_some (first_with is_value (initial s.base) (member a n w rest)) ≡ true → v ≡ true) →
+    OnObject s p (plain_inside s input) k (lead_phase first (prelude_length (initial s.base ∷ []) (member a n w rest))) no_value v l r →
+    AgreesTo R (feed_members s (member a n w rest) l) (replay (initial s.base) es r)
+unfolding feed replay
+stops-member s input p k v first a n w rest e R stop es more l r eq ks val x =
+    let c = initial s.base in
+    let i = plain_inside s input in
+    let q = key_of c n in
+    let len = prelude_length (c ∷ []) (member a n w rest) in
+    let ph = follow (lead_phase first len) i n in
+    subst (λ fs. AgreesTo R (feed_members s (member a n w rest) l) (replay c fs r)) (sym eq)
+    (agrees-then (OnObject s p i k ph (keyword_value q a) v) R (take_key a n l) (at_step c true (events.Key a n) r) (λ m. then_goes (feed s w m) (feed_members s rest)) (replay c (e ∷ more))
+    (leading-key s input a n p k (lead_phase first len) ph v l r ks.0 (value-first (is_value q) w (first_with is_value c rest) v val) (leads-fine first len s input n a ks.0) refl x)
+    (λ m u y. let st = stop m u ph y in both-stop R (feed s w m) (at_step c true e u) (feed_members s rest) (replay c more) st.0 st.1.0 st.1.1))
+
+array-tells : (s : Settings) (input : Expanded) (p : Spot) (k : List Frame) (v : Bool) (first : Bool) (a : ℕ) (n : Text) (b : ℕ) (xs : Trees) (rest : Members) → KeyTells s input p k v false rest →
+    KeyTells s input p k v first (member a n (array b xs) rest)
+unfolding feed
+array-tells s input p k v first a n b xs rest next es l r h ks val x = by (is_kind (key_of (initial s.base) n)) refl h
+  where
+    R : List Frame → Reader → Type 0
+    R = AfterMembers s p (plain_inside s input) k (in_lead zero) v (all_lead (initial s.base) (member a n (array b xs) rest))
+
+    by : (y : Bool) → is_kind (key_of (initial s.base) n) ≡ y → HeldArray y a n b xs (Held (initial s.base) rest) es → AgreesTo R (feed_members s (member a n (array b xs) rest) l) (replay (initial s.base) es r)
+    by true e g = types-member s input p k v first a n b xs rest next e es g.0 g.1.0 l r g.1.1.0 g.1.1.1.0 g.1.1.1.1 ks val x
+    by false e g =
+        stops-member s input p k v first a n (array b xs) rest (events.OpensArray b) R
+        (λ m u ph y. let st = leading-array s (key_of (initial s.base) n) a b p (plain_inside s input) k ph v m u ks.0 e y in
+        (st.0, (ap (λ z. then_goes z (λ m2. then_goes (feed_items s xs m2) close)) st.1.0, st.1.1)))
+        es g.0 l r g.1 ks val x
+
+object-tells : (s : Settings) (input : Expanded) (p : Spot) (k : List Frame) (v : Bool) (first : Bool) (a : ℕ) (n : Text) (b : ℕ) (ms rest : Members) →
+    KeyTells s input p k v first (member a n (object b ms) rest)
+unfolding feed
+object-tells s input p k v first a n b ms rest es l r h ks val x =
+    stops-member s input p k v first a n (object b ms) rest (events.OpensObject b) (AfterMembers s p (plain_inside s input) k (in_lead zero) v (all_lead (initial s.base) (member a n (object b ms) rest)))
+    (λ m u ph y. let st = leading-object s (key_of (initial s.base) n) a b (decided s b ms) p (plain_inside s input) k ph v m u ks.0 y in
+    (st.0, (ap (λ z. then_goes z (λ m2. then_goes (feed_members s ms m2) close)) st.1.0, st.1.1)))
+    es h.0 l r h.1 ks val x
+
+-- one member and those after it
+member-tells : (s : Settings) (input : Expanded) (p : Spot) (k : List Frame) (v : Bool) (first : Bool) (a : ℕ) (n : Text) (w : Tree) (rest : Members) → KeyTells s input p k v false rest →
+    KeyTells s input p k v first (member a n w rest)
+member-tells s input p k v first a n (scalar b x) rest next = scalar-tells s input p k v first a n b x rest next
+member-tells s input p k v first a n (array b xs) rest next = array-tells s input p k v first a n b xs rest next
+member-tells s input p k v first a n (object b ms) rest next = object-tells s input p k v first a n b ms rest
+
+no-member-tells : (s : Settings) (input : Expanded) (p : Spot) (k : List Frame) (v : Bool) → KeyTells s input p k v false no_member
+unfolding feed replay
+no-member-tells s input p k v es l r h ks val x =
+    subst (λ fs. AgreesTo (AfterMembers s p (plain_inside s input) k (in_lead zero) v true) (feed_members s no_member l) (replay (initial s.base) fs r)) (sym h) (r, (refl, (x, refl)))
+
+pub members-tell : (s : Settings) (input : Expanded) (p : Spot) (k : List Frame) (v : Bool) (ms : Members) → KeyTells s input p k v false ms
+members-tell s input p k v no_member = no-member-tells s input p k v
+members-tell s input p k v (member a n w rest) = member-tells s input p k v false a n w rest (members-tell s input p k v rest)
+
+-- ---- all that was held
+
+-- nothing was held, or the prelude is over
+abbrev pub last_phase : Members → Phase
+last_phase no_member = at_start zero
+last_phase (member a n v rest) = in_lead zero
+
+pub all-tell : (s : Settings) (input : Expanded) (p : Spot) (k : List Frame) (v : Bool) (ms : Members) (es : List Event) (l : List Frame) (r : Reader) →
+    Held (initial s.base) ms es → KeysLead (initial s.base) ms → (is_some (first_with is_value (initial s.base) ms) ≡ true → v ≡ true) →
+    OnObject s p (plain_inside s input) k (at_start (prelude_length (initial s.base ∷ []) ms)) no_value v l r →
+    AgreesTo (AfterMembers s p (plain_inside s input) k (last_phase ms) v (all_lead (initial s.base) ms)) (feed_members s ms l) (replay (initial s.base) es r)
+unfolding feed replay
+all-tell s input p k v no_member es l r h ks val x =
+    subst (λ fs. AgreesTo (AfterMembers s p (plain_inside s input) k (at_start zero) v true) (feed_members s no_member l) (replay (initial s.base) fs r)) (sym h) (r, (refl, (x, refl)))
+all-tell s input p k v (member a n w rest) es l r h ks val x = member-tells s input p k v true a n w rest (members-tell s input p k v rest) es l r h ks val x

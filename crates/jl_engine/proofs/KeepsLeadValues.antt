@@ -1,0 +1,467 @@
+-- The first event of a value, after a key of an object that is held.
+use Rattle.std.proofs.Common.{ℕ, ◌≡◌, refl, sym, ◌∙◌, ap, subst, Bool, true, false, not, ◌&&◌, List, [], ◌∷◌, ◌++◌, Some, append_assoc}
+use Rattle.std.specs.Prelude.{zero}
+use Rattle.jl_model.specs.JsonTree.{Tree, scalar, array, object, no_item, Members, no_member, member}
+use Rattle.jl_model.specs.declared.scalars.Scalar.{Scalar}
+use Rattle.jl_defs.specs.Texts.{Text}
+use Rattle.jl_defs.specs.Context.{Context, initial}
+use Rattle.jl_defs.specs.Settings.{Settings}
+use Rattle.jl_defs.specs.Keys.{Key, kind, id, value, language, direction, index, key_of, is_leading, is_kind, is_value}
+use Rattle.jl_defs.specs.Rest.{is_scalar}
+use Rattle.jl_defs.specs.ObjectContexts.{Inside, look_at_key}
+use Rattle.jl_prelude.specs.Classes.{class_of}
+use Rattle.jl_prelude.specs.declared.classes.Class.{Class}
+use Rattle.jl_laws.specs.Spots.{Spot, stand_of}
+use Rattle.jl_walk.specs.Phases.{Phase, at_start, in_run, run_until, past, is_rest}
+use Rattle.jl_walk.specs.Frames.{Frame}
+use Rattle.jl_walk.specs.Steps.{then_goes}
+use Rattle.jl_walk.specs.Keys.{take_key}
+use Rattle.jl_walk.specs.Fits.{BeginsValue}
+use Rattle.jl_walk.specs.Events as tree
+use Rattle.jl_walk.specs.Running as walk
+use Rattle.jl_walk.specs.Running.{if_decided, second_of, run_key, ending_key, may_type, contexts_of, takes, value_step, leads_with}
+use Rattle.jl_walk.specs.States as states
+use Rattle.jl_walk.specs.States.{Second, State, leading_key, running, running_key, in_items, in_members, Go, go, then_go, settle, held_with}
+use Rattle.jl_walk.proofs.Goes.{before-none}
+use Rattle.jl_frames.specs.declared.states.StackState.{StackState}
+use Rattle.jl_engine.specs.Leads.{Admits, holds, shows, opens_whole, array_at}
+use Rattle.jl_engine.specs.Reading.{Read, still, by_admits, step}
+use Rattle.jl_engine.specs.Reading as reading
+use Rattle.jl_engine.specs.TreeEvents.{walked}
+use Rattle.jl_engine.specs.KeepsFrames.{plain_inside}
+use Rattle.jl_engine.specs.Keeping.{Shows, Held, lead_by, reader_by, KeepsLead, KeepsRun, PartIs, Between, between, in_types, in_run_value, Agrees}
+use Rattle.jl_engine.specs.declared.events.Event.{Event}
+use Rattle.jl_engine.specs.declared.events.Event.TheVariants as events
+use Rattle.jl_engine.specs.declared.leads.Lead.{Lead}
+use Rattle.jl_engine.specs.declared.leads.LeadPart.{LeadPart}
+use Rattle.jl_engine.specs.declared.leads.LeadPart.TheVariants as parts
+use Rattle.jl_engine.specs.declared.leads.LeadSpot.TheVariants as spots
+use Rattle.jl_engine.specs.declared.readers.Reader.{Reader}
+use Rattle.jl_engine.proofs.KeepsLeadSpots.{spot-plain}
+use Rattle.jl_engine.proofs.KeepsLeadWhole.{types-begin}
+use Rattle.jl_engine.proofs.KeepsLeadTypes.{key-last, input-shown}
+use Rattle.jl_engine.proofs.KeepsLeadShown.{shows-scalar, typed-scalar, shows-by, part_after, with_whole, opens-by, IsWhole, shows-whole, kind-whole, kind-other}
+use Rattle.jl_engine.proofs.KeepsLeadHeld.{held-more, one-scalar, OpensAs, one-whole, keys-more, lead-more, lead-stays, lead-ends, length-stays, length-ends, scalar-leads, whole-ends}
+use Rattle.jl_engine.proofs.KeepsLeadTells.{leads-run}
+use Rattle.jl_engine.proofs.KeepsLeadSteps.{plain_lead, decided_input, lead-decided, types-so}
+
+-- ---- a scalar
+
+-- the reader holds it, and what it shows
+scalar-held : (c : Context) (place : ℕ) (es : List Event) (part : LeadPart) (k : Class) (m : Lead) (st : StackState) (b : ℕ) (v : Scalar) →
+    step c (events.Value b v) (reader_by st (lead_by place es part (spots.After k) m))
+    ≡ still (reader_by st (lead_by place (es ++ events.Value b v ∷ []) part spots.Between (shows c k v m)))
+unfolding step
+scalar-held c place es part k m st b v =
+    ap (λ x. still (reader_by st (reading.held_with (events.Value b v) x))) (shows-by c k v place es part (spots.After k) m)
+
+-- the key and its value
+two : (es : List Event) (e f : Event) → (es ++ e ∷ []) ++ f ∷ [] ≡ es ++ e ∷ (f ∷ [])
+two es e f = append_assoc es (e ∷ []) (f ∷ [])
+
+three : (es : List Event) (e f g : Event) → ((es ++ e ∷ []) ++ f ∷ []) ++ g ∷ [] ≡ es ++ e ∷ (f ∷ (g ∷ []))
+three es e f g = ap (λ x. x ++ g ∷ []) (two es e f) ∙ append_assoc es (e ∷ (f ∷ [])) (g ∷ [])
+
+lead-scalar : (s : Settings) (p : Spot) (place : ℕ) (held : Members) (k : List Frame) (es : List Event) (m : Lead) (st : StackState) (a : ℕ) (n : Text) (b : ℕ) (v : Scalar) →
+    KeepsLead s (plain_lead p place held k) es m st → is_leading (key_of (initial s.base) n) ≡ true →
+    Between s (leads_with (plain_lead p place held k) a n (scalar b v))
+    (reader_by st (lead_by place ((es ++ events.Key a n ∷ []) ++ events.Value b v ∷ []) parts.Prelude spots.Between (shows (initial s.base) (class_of (key_of (initial s.base) n)) v m)))
+lead-scalar s p place held k es m st a n b v h e =
+    let c = initial s.base in
+    let own = events.Key a n ∷ (events.Value b v ∷ []) in
+    let m2 = shows c (class_of (key_of c n)) v m in (
+      st,
+      (
+        es ++ own,
+        (
+          m2,
+          (
+            ap (λ x. reader_by st (lead_by place x parts.Prelude spots.Between m2)) (two es (events.Key a n) (events.Value b v)),
+            record {
+              stands = h.stands;
+              first = h.first;
+              held = held-more c held es a n (scalar b v) own h.held (one-scalar c a n b v);
+              keys = keys-more c held a n (scalar b v) h.keys e;
+              leads = lead-more c held a n (scalar b v) h.leads (scalar-leads c n b v e);
+              shows = shows-scalar c held a n b v m e (λ _. h.typed) h.shows;
+              typed = typed-scalar c held a n b v m h.typed;
+            },
+          ),
+        ),
+      ),
+    )
+
+-- ---- an array or an object that begins the second run
+
+-- the second run, with a first member
+abbrev first_run : Settings → Spot → ℕ → Members → List Frame → ℕ → Text → Tree → State
+first_run s p place held k a n v =
+    let i = plain_inside s (decided_input s held (look_at_key n ∷ [])) in
+    running (record (second_of (plain_lead p place held k) i) { phase = past in_run i n v; held = held_with held a n v })
+
+lead-begins : (s : Settings) (p : Spot) (place : ℕ) (held : Members) (k : List Frame) (a : ℕ) (n : Text) (e : tree.Event) → p.context ≡ initial s.base → is_leading (key_of (initial s.base) n) ≡ true →
+    then_go (ending_key s (plain_lead p place held k) a n) (value_step s e) ≡ takes e (first_run s p place held k a n)
+lead-begins s p place held k a n e pc h =
+    let l = plain_lead p place held k in
+    let more = look_at_key n ∷ [] in
+    let i = plain_inside s (decided_input s held more) in
+    ap (λ x. then_go (if_decided x (λ j. run_key s (second_of l j) a n)) (value_step s e)) (lead-decided s p place held more pc)
+    ∙ (ap (λ x. then_go (elim (is_rest x) [
+      | true ↦ settle (then_goes (walk.settles s (second_of l i)) (take_key a n))
+      | false ↦ go (running_key (record (second_of l i) { phase = x }) a n)
+    ]) (value_step s e)) (leads-run s (decided_input s held more) n h)
+    ∙ before-none (takes e (first_run s p place held k a n)))
+
+-- the part of the run after it
+part-of : (q : Key) → PartIs (run_until (is_value q && true)) (part_after (class_of q))
+part-of value = refl
+part-of id = refl
+part-of kind = refl
+part-of language = refl
+part-of direction = refl
+part-of index = refl
+part-of q = refl
+
+part-so : (q : Key) (v : Tree) → IsWhole q v → PartIs (run_until (is_value q && not (is_scalar v))) (part_after (class_of q))
+part-so q (scalar b v) w = absurd w
+part-so q (array b xs) w = part-of q
+part-so q (object b ms) w = part-of q
+
+lead-whole : (s : Settings) (p : Spot) (place : ℕ) (held : Members) (k : List Frame) (es : List Event) (m : Lead) (st : StackState) (a : ℕ) (n : Text) (v : Tree) (e : Event) →
+    KeepsLead s (plain_lead p place held k) es m st → is_leading (key_of (initial s.base) n) ≡ true → IsWhole (key_of (initial s.base) n) v → OpensAs v e →
+    Between s (first_run s p place held k a n v)
+    (reader_by st (lead_by place (((es ++ events.Key a n ∷ []) ++ e ∷ []) ++ events.Closes ∷ []) (part_after (class_of (key_of (initial s.base) n))) spots.Between (with_whole (class_of (key_of (initial s.base) n)) m)))
+lead-whole s p place held k es m st a n v e h ld w o =
+    let c = initial s.base in
+    let q = key_of c n in
+    let part = part_after (class_of q) in
+    let own = events.Key a n ∷ (e ∷ (events.Closes ∷ [])) in
+    let m2 = with_whole (class_of q) m in
+    let more = look_at_key n ∷ [] in (
+      st,
+      (
+        es ++ own,
+        (
+          m2,
+          (
+            part,
+            (
+              ap (λ x. reader_by st (lead_by place x part spots.Between m2)) (three es (events.Key a n) e events.Closes),
+              (
+                record {
+                  stands = h.stands;
+                  plain = refl;
+                  start = ap at_start (length-ends c held a n v h.leads (whole-ends c n v w));
+                  held = held-more c held es a n v own h.held (one-whole c a n v e (events.Closes ∷ []) w o);
+                  keys = keys-more c held a n v h.keys ld;
+                  stops = lead-ends c held a n v (whole-ends c n v w);
+                  shows = shows-whole c held a n v m ld w h.shows;
+                  input = input-shown s.base (stand_of p.role.around) held more (key-last c n) ∙ kind-whole c held a n v w;
+                },
+                part-so q v w,
+              ),
+            ),
+          ),
+        ),
+      ),
+    )
+
+-- what the reader does
+array-by : (q : Key) (place : ℕ) (es : List Event) (part : LeadPart) (m : Lead) →
+    array_at (spots.After (class_of q)) (lead_by place es part (spots.After (class_of q)) m)
+    ≡ elim (is_kind q) [
+      | true ↦ holds (lead_by place es part (spots.InTypes zero false) m)
+      | false ↦ opens_whole (class_of q) (lead_by place es part (spots.After (class_of q)) m)
+    ]
+array-by kind place es part m = refl
+array-by id place es part m = refl
+array-by value place es part m = refl
+array-by language place es part m = refl
+array-by direction place es part m = refl
+array-by index place es part m = refl
+array-by q place es part m = refl
+
+-- a value of the second run is held, but not what stands in it
+whole-held : (c : Context) (e : Event) (k : Class) (place : ℕ) (es : List Event) (part : LeadPart) (m : Lead) (st : StackState) (x : Admits) → x ≡ opens_whole k (lead_by place es part (spots.After k) m) → (r : Reader) →
+    r ≡ reader_by st (lead_by place es part (spots.After k) m) →
+    by_admits x c e (lead_by place es part (spots.After k) m) r ≡ still (reader_by st (lead_by place (es ++ e ∷ []) (part_after k) (spots.Inside zero) (with_whole k m)))
+whole-held c e k place es part m st x h r g =
+    ap (λ y. by_admits y c e (lead_by place es part (spots.After k) m) r) (h ∙ opens-by k place es part (spots.After k) m)
+    ∙ ap (λ y. still (record y { lead = Some (lead_by place (es ++ e ∷ []) (part_after k) (spots.Inside zero) (with_whole k m)) })) g
+
+object-held : (c : Context) (q : Key) (place : ℕ) (es : List Event) (part : LeadPart) (m : Lead) (st : StackState) (b : ℕ) →
+    step c (events.OpensObject b) (reader_by st (lead_by place es part (spots.After (class_of q)) m))
+    ≡ still (reader_by st (lead_by place (es ++ events.OpensObject b ∷ []) (part_after (class_of q)) (spots.Inside zero) (with_whole (class_of q) m)))
+unfolding step
+object-held c q place es part m st b =
+    whole-held c (events.OpensObject b) (class_of q) place es part m st (opens_whole (class_of q) (lead_by place es part (spots.After (class_of q)) m)) refl
+    (reader_by st (lead_by place es part (spots.After (class_of q)) m)) refl
+
+array-held : (c : Context) (q : Key) (place : ℕ) (es : List Event) (part : LeadPart) (m : Lead) (st : StackState) (b : ℕ) → is_kind q ≡ false →
+    step c (events.OpensArray b) (reader_by st (lead_by place es part (spots.After (class_of q)) m))
+    ≡ still (reader_by st (lead_by place (es ++ events.OpensArray b ∷ []) (part_after (class_of q)) (spots.Inside zero) (with_whole (class_of q) m)))
+unfolding step
+array-held c q place es part m st b e =
+    whole-held c (events.OpensArray b) (class_of q) place es part m st (array_at (spots.After (class_of q)) (lead_by place es part (spots.After (class_of q)) m))
+    (array-by q place es part m ∙ ap (λ x. kept x) e)
+    (reader_by st (lead_by place es part (spots.After (class_of q)) m)) refl
+  where
+    kept : Bool → Admits
+    kept x = elim x [
+      | true ↦ holds (lead_by place es part (spots.InTypes zero false) m)
+      | false ↦ opens_whole (class_of q) (lead_by place es part (spots.After (class_of q)) m)
+    ]
+
+types-held : (c : Context) (q : Key) (place : ℕ) (es : List Event) (part : LeadPart) (m : Lead) (st : StackState) (b : ℕ) → is_kind q ≡ true →
+    step c (events.OpensArray b) (reader_by st (lead_by place es part (spots.After (class_of q)) m))
+    ≡ still (reader_by st (lead_by place (es ++ events.OpensArray b ∷ []) part (spots.InTypes zero false) m))
+unfolding step
+types-held c q place es part m st b e =
+    ap (λ x. by_admits x c (events.OpensArray b) (lead_by place es part (spots.After (class_of q)) m) (reader_by st (lead_by place es part (spots.After (class_of q)) m)))
+    (array-by q place es part m ∙ ap (λ x. kept x) e)
+  where
+    kept : Bool → Admits
+    kept x = elim x [
+      | true ↦ holds (lead_by place es part (spots.InTypes zero false) m)
+      | false ↦ opens_whole (class_of q) (lead_by place es part (spots.After (class_of q)) m)
+    ]
+
+-- both take what they take
+agrees-by : (s : Settings) (g h : Go) (t u : Read) → g ≡ h → t ≡ u → Agrees s h u → Agrees s g t
+agrees-by s g h t u e f x = subst (λ y. Agrees s y t) (sym e) (subst (λ y. Agrees s h y) (sym f) x)
+
+lead-object : (s : Settings) (p : Spot) (place : ℕ) (held : Members) (k : List Frame) (es : List Event) (m : Lead) (st : StackState) (a : ℕ) (n : Text) (b : ℕ) → p.context ≡ initial s.base →
+    KeepsLead s (plain_lead p place held k) es m st → is_leading (key_of (initial s.base) n) ≡ true →
+    Agrees s (then_go (ending_key s (plain_lead p place held k) a n) (value_step s (tree.opens_object b)))
+    (step (initial s.base) (events.OpensObject b) (reader_by st (lead_by place (es ++ events.Key a n ∷ []) parts.Prelude (spots.After (class_of (key_of (initial s.base) n))) m)))
+lead-object s p place held k es m st a n b pc h ld =
+    let c = initial s.base in
+    let q = key_of c n in
+    let es2 = (es ++ events.Key a n ∷ []) ++ events.OpensObject b ∷ [] in
+    let r = reader_by st (lead_by place es2 (part_after (class_of q)) (spots.Inside zero) (with_whole (class_of q) m)) in
+    agrees-by s _ (takes (tree.opens_object b) (first_run s p place held k a n)) _ (still r)
+    (lead-begins s p place held k a n (tree.opens_object b) pc ld) (object-held c q place (es ++ events.Key a n ∷ []) parts.Prelude m st b) (
+      r,
+      (
+        refl,
+        in_run_value zero (record {
+          stack = st;
+          place = place;
+          held = es2;
+          part = part_after (class_of q);
+          shown = with_whole (class_of q) m;
+          reader = refl;
+          closing = λ ns. lead-whole s p place held k es m st a n (object b ns) (events.OpensObject b) h ld tt refl;
+        }),
+      ),
+    )
+
+lead-array : (s : Settings) (p : Spot) (place : ℕ) (held : Members) (k : List Frame) (es : List Event) (m : Lead) (st : StackState) (a : ℕ) (n : Text) (b : ℕ) → p.context ≡ initial s.base →
+    KeepsLead s (plain_lead p place held k) es m st → is_leading (key_of (initial s.base) n) ≡ true →
+    Agrees s (walk.key_step s (tree.opens_array b) (plain_lead p place held k) a n)
+    (step (initial s.base) (events.OpensArray b) (reader_by st (lead_by place (es ++ events.Key a n ∷ []) parts.Prelude (spots.After (class_of (key_of (initial s.base) n))) m)))
+lead-array s p place held k es m st a n b pc h ld =
+    subst (λ x. Agrees s (goes x) t) (sym (types-so s p place n pc)) (by (is_kind q) refl)
+  where
+    c : Context
+    c = initial s.base
+
+    q : Key
+    q = key_of (initial s.base) n
+
+    l : states.Lead
+    l = plain_lead p place held k
+
+    t : Read
+    t = step (initial s.base) (events.OpensArray b) (reader_by st (lead_by place (es ++ events.Key a n ∷ []) parts.Prelude (spots.After (class_of q)) m))
+
+    goes : Bool → Go
+    goes x = elim x [
+      | true ↦ go (in_items b no_item (leads_with l a n))
+      | false ↦ then_go (ending_key s l a n) (value_step s (tree.opens_array b))
+    ]
+
+    es2 : List Event
+    es2 = (es ++ events.Key a n ∷ []) ++ events.OpensArray b ∷ []
+
+    r : Reader
+    r = reader_by st (lead_by place es2 (part_after (class_of q)) (spots.Inside zero) (with_whole (class_of q) m))
+
+    r1 : Reader
+    r1 = reader_by st (lead_by place es2 parts.Prelude (spots.InTypes zero false) m)
+
+    by : (x : Bool) → is_kind q ≡ x → Agrees s (goes x) t
+    by true e =
+        agrees-by s (goes true) (go (in_items b no_item (leads_with l a n))) t (still r1) refl (types-held c q place (es ++ events.Key a n ∷ []) parts.Prelude m st b e)
+        (r1, (refl, in_types (types-begin s l a n b st es m h e)))
+    by false e =
+        agrees-by s (goes false) (takes (tree.opens_array b) (first_run s p place held k a n)) t (still r)
+        (lead-begins s p place held k a n (tree.opens_array b) pc ld) (array-held c q place (es ++ events.Key a n ∷ []) parts.Prelude m st b e) (
+          r,
+          (
+            refl,
+            in_run_value zero (record {
+              stack = st;
+              place = place;
+              held = es2;
+              part = part_after (class_of q);
+              shown = with_whole (class_of q) m;
+              reader = refl;
+              closing = λ ys. lead-whole s p place held k es m st a n (array b ys) (events.OpensArray b) h ld e refl;
+            }),
+          ),
+        )
+
+pub lead-values : (s : Settings) (e : Event) (p : Spot) (place : ℕ) (held : Members) (k : List Frame) (es : List Event) (m : Lead) (st : StackState) (a : ℕ) (n : Text) →
+    KeepsLead s (plain_lead p place held k) es m st → is_leading (key_of (initial s.base) n) ≡ true → BeginsValue (walked e) →
+    Agrees s (walk.step s (walked e) (leading_key (plain_lead p place held k) a n))
+    (step (initial s.base) e (reader_by st (lead_by place (es ++ events.Key a n ∷ []) parts.Prelude (spots.After (class_of (key_of (initial s.base) n))) m)))
+unfolding walk.step
+lead-values s (events.OpensObject b) p place held k es m st a n h ld f = lead-object s p place held k es m st a n b (spot-plain s k st p h.stands.keeps h.stands.top) h ld
+lead-values s (events.OpensArray b) p place held k es m st a n h ld f = lead-array s p place held k es m st a n b (spot-plain s k st p h.stands.keeps h.stands.top) h ld
+lead-values s events.Closes p place held k es m st a n h ld f = absurd f
+lead-values s (events.Key d x) p place held k es m st a n h ld f = absurd f
+lead-values s (events.Value b v) p place held k es m st a n h ld f =
+    let c = initial s.base in
+    let r = reader_by st (lead_by place ((es ++ events.Key a n ∷ []) ++ events.Value b v ∷ []) parts.Prelude spots.Between (shows c (class_of (key_of c n)) v m)) in
+    (r, (scalar-held c place (es ++ events.Key a n ∷ []) parts.Prelude (class_of (key_of c n)) m st b v, between (lead-scalar s p place held k es m st a n b v h ld)))
+
+-- ---- in the second run
+
+run-more : (s : Settings) (q : Second) (es own : List Event) (m m2 : Lead) (st : StackState) (a : ℕ) (n : Text) (v : Tree) (ph : Phase) → KeepsRun s q es m st → is_leading (key_of (initial s.base) n) ≡ true → is_kind (key_of (initial s.base) n) ≡ false →
+    Held (initial s.base) (member a n v no_member) own → Shows (initial s.base) (held_with q.held a n v) m2 → KeepsRun s (record q { phase = ph; held = held_with q.held a n v }) (es ++ own) m2 st
+run-more s q es own m m2 st a n v ph h ld nk one sh =
+    let c = initial s.base in
+    record {
+      stands = h.stands;
+      plain = h.plain;
+      start = h.start ∙ ap at_start (length-stays c q.held a n v h.stops);
+      held = held-more c q.held es a n v own h.held one;
+      keys = keys-more c q.held a n v h.keys ld;
+      stops = lead-stays c q.held a n v h.stops;
+      shows = sh;
+      input = h.input ∙ kind-other c q.held a n v nk;
+    }
+
+-- the final context is the initial one
+final-so : (s : Settings) (q : Second) (es : List Event) (m : Lead) (st : StackState) → KeepsRun s q es m st → q.inside.final ≡ initial s.base
+final-so s q es m st h = ap (λ (i : Inside). i.final) h.plain
+
+past-part : (s : Settings) (q : Second) (n : Text) (v : Tree) (part : LeadPart) → q.phase ≡ in_run → q.inside.final ≡ initial s.base → PartIs (run_until (is_value (key_of (initial s.base) n) && not (is_scalar v))) part →
+    PartIs (past q.phase q.inside n v) part
+past-part s q n v part e f h =
+    subst (λ ph. PartIs (past ph q.inside n v) part) (sym e)
+    (subst (λ c. PartIs (run_until (is_value (key_of c n) && not (is_scalar v))) part) (sym f) h)
+
+scalar-part : (x : Bool) → PartIs (run_until (x && false)) parts.Run
+scalar-part true = refl
+scalar-part false = refl
+
+-- the state after a value
+abbrev next_run : Second → ℕ → Text → Tree → State
+next_run q a n v = running (record q { phase = past q.phase q.inside n v; held = held_with q.held a n v })
+
+run-scalar : (s : Settings) (q : Second) (es : List Event) (m : Lead) (st : StackState) (a : ℕ) (n : Text) (b : ℕ) (v : Scalar) → KeepsRun s q es m st → q.phase ≡ in_run →
+    is_leading (key_of (initial s.base) n) ≡ true → is_kind (key_of (initial s.base) n) ≡ false →
+    Between s (next_run q a n (scalar b v))
+    (reader_by st (lead_by q.place ((es ++ events.Key a n ∷ []) ++ events.Value b v ∷ []) parts.Run spots.Between (shows (initial s.base) (class_of (key_of (initial s.base) n)) v m)))
+run-scalar s q es m st a n b v h ph ld nk =
+    let c = initial s.base in
+    let own = events.Key a n ∷ (events.Value b v ∷ []) in
+    let m2 = shows c (class_of (key_of c n)) v m in (
+      st,
+      (
+        es ++ own,
+        (
+          m2,
+          (
+            parts.Run,
+            (
+              ap (λ x. reader_by st (lead_by q.place x parts.Run spots.Between m2)) (two es (events.Key a n) (events.Value b v)),
+              (
+                run-more s q es own m m2 st a n (scalar b v) (past q.phase q.inside n (scalar b v)) h ld nk (one-scalar c a n b v)
+                    (shows-scalar c q.held a n b v m ld (λ e. absurd (let z : true ≡ false = sym e ∙ nk in cc)) h.shows),
+                past-part s q n (scalar b v) parts.Run ph (final-so s q es m st h) (scalar-part (is_value (key_of c n))),
+              ),
+            ),
+          ),
+        ),
+      ),
+    )
+
+run-whole : (s : Settings) (q : Second) (es : List Event) (m : Lead) (st : StackState) (a : ℕ) (n : Text) (v : Tree) (e : Event) → KeepsRun s q es m st → q.phase ≡ in_run →
+    is_leading (key_of (initial s.base) n) ≡ true → is_kind (key_of (initial s.base) n) ≡ false → IsWhole (key_of (initial s.base) n) v → OpensAs v e →
+    Between s (next_run q a n v)
+    (reader_by st (lead_by q.place (((es ++ events.Key a n ∷ []) ++ e ∷ []) ++ events.Closes ∷ []) (part_after (class_of (key_of (initial s.base) n))) spots.Between (with_whole (class_of (key_of (initial s.base) n)) m)))
+run-whole s q es m st a n v e h ph ld nk w o =
+    let c = initial s.base in
+    let key = key_of c n in
+    let part = part_after (class_of key) in
+    let own = events.Key a n ∷ (e ∷ (events.Closes ∷ [])) in
+    let m2 = with_whole (class_of key) m in (
+      st,
+      (
+        es ++ own,
+        (
+          m2,
+          (
+            part,
+            (
+              ap (λ x. reader_by st (lead_by q.place x part spots.Between m2)) (three es (events.Key a n) e events.Closes),
+              (
+                run-more s q es own m m2 st a n v (past q.phase q.inside n v) h ld nk (one-whole c a n v e (events.Closes ∷ []) w o) (shows-whole c q.held a n v m ld w h.shows),
+                past-part s q n v part ph (final-so s q es m st h) (part-so key v w),
+              ),
+            ),
+          ),
+        ),
+      ),
+    )
+
+pub run-values : (s : Settings) (e : Event) (q : Second) (es : List Event) (m : Lead) (st : StackState) (a : ℕ) (n : Text) → KeepsRun s q es m st → q.phase ≡ in_run →
+    is_leading (key_of (initial s.base) n) ≡ true → is_kind (key_of (initial s.base) n) ≡ false → BeginsValue (walked e) →
+    Agrees s (walk.step s (walked e) (running_key q a n))
+    (step (initial s.base) e (reader_by st (lead_by q.place (es ++ events.Key a n ∷ []) parts.Run (spots.After (class_of (key_of (initial s.base) n))) m)))
+unfolding walk.step
+run-values s (events.OpensObject b) q es m st a n h ph ld nk f =
+    let c = initial s.base in
+    let key = key_of c n in
+    let es2 = (es ++ events.Key a n ∷ []) ++ events.OpensObject b ∷ [] in (
+      reader_by st (lead_by q.place es2 (part_after (class_of key)) (spots.Inside zero) (with_whole (class_of key) m)),
+      (
+        object-held c key q.place (es ++ events.Key a n ∷ []) parts.Run m st b,
+        in_run_value zero (record {
+          stack = st;
+          place = q.place;
+          held = es2;
+          part = part_after (class_of key);
+          shown = with_whole (class_of key) m;
+          reader = refl;
+          closing = λ ns. run-whole s q es m st a n (object b ns) (events.OpensObject b) h ph ld nk tt refl;
+        }),
+      ),
+    )
+run-values s (events.OpensArray b) q es m st a n h ph ld nk f =
+    let c = initial s.base in
+    let key = key_of c n in
+    let es2 = (es ++ events.Key a n ∷ []) ++ events.OpensArray b ∷ [] in (
+      reader_by st (lead_by q.place es2 (part_after (class_of key)) (spots.Inside zero) (with_whole (class_of key) m)),
+      (
+        array-held c key q.place (es ++ events.Key a n ∷ []) parts.Run m st b nk,
+        in_run_value zero (record {
+          stack = st;
+          place = q.place;
+          held = es2;
+          part = part_after (class_of key);
+          shown = with_whole (class_of key) m;
+          reader = refl;
+          closing = λ ys. run-whole s q es m st a n (array b ys) (events.OpensArray b) h ph ld nk nk refl;
+        }),
+      ),
+    )
+run-values s events.Closes q es m st a n h ph ld nk f = absurd f
+run-values s (events.Key d x) q es m st a n h ph ld nk f = absurd f
+run-values s (events.Value b v) q es m st a n h ph ld nk f =
+    let c = initial s.base in
+    let r = reader_by st (lead_by q.place ((es ++ events.Key a n ∷ []) ++ events.Value b v ∷ []) parts.Run spots.Between (shows c (class_of (key_of c n)) v m)) in
+    (r, (scalar-held c q.place (es ++ events.Key a n ∷ []) parts.Run (class_of (key_of c n)) m st b v, between (run-scalar s q es m st a n b v h ph ld nk)))
