@@ -1,5 +1,6 @@
 -- What a call may answer.
-use Rattle.std.specs.Prelude.{◌≡◌, Bool, true, false, not, List, [], ◌∷◌, Option, Some, None, Result, Err, codes}
+use Rattle.std.specs.Prelude.{◌≡◌, Bool, true, false, not, List, [], ◌∷◌, Option, Some, None, Result, Ok, Err, codes}
+use Rattle.jl_model.specs.Parts.{Parts}
 use Rattle.jl_model.specs.declared.faults.Fault.{Fault}
 use Rattle.jl_model.specs.declared.expansions.Expanded.{Expanded}
 use Rattle.jl_model.specs.declared.expansions.Expanded.TheVariants as expanded
@@ -14,6 +15,34 @@ use Rattle.jl_frames.specs.declared.states.StackState.{StackState}
 abbrev pub HasCause : {A : Type 0} → FrameStop → Result A Fault → Type 0
 HasCause (stop.Refused f) step = step ≡ Err f
 HasCause stop.NoMemory step = Unit {0}
+
+-- a call makes this step, of the stack or of an open object; after an error all is as before
+abbrev pub Goes : {S : Type 0} → Result (List Parts) FrameStop → Result (List Parts × S) Fault → S → S → Type 0
+Goes (Ok quads) step old new = step ≡ Ok (quads, new)
+Goes (Err why) step old new = HasCause why step × (new ≡ old)
+
+-- the same of a call that nothing stops but too little memory
+abbrev pub Opens : {S : Type 0} → Result (List Parts) FrameStop → Result (List Parts × S) Fault → S → S → Type 0
+Opens (Ok quads) step old new = step ≡ Ok (quads, new)
+Opens (Err why) step old new = (why ≡ stop.NoMemory) × (new ≡ old)
+
+-- the same of a call that brings no quads and takes no memory
+abbrev pub Takes : {A S : Type 0} → Result A Fault → Result S Fault → S → S → Type 0
+Takes (Ok x) step old new = step ≡ Ok new
+Takes (Err f) step old new = (step ≡ Err f) × (new ≡ old)
+
+-- what a call finds
+abbrev pub Finds : {A : Type 0} → Result A FrameStop → Result A Fault → Type 0
+Finds (Ok x) found = found ≡ Ok x
+Finds (Err why) found = HasCause why found
+
+-- the stack hasn't stopped
+abbrev pub IsLive : StackState → Type 0
+IsLive s = (s.stopped ≡ None) × (s.short ≡ false)
+
+-- at most the innermost object changes
+abbrev pub KeepsOthers : StackState → StackState → Type 0
+KeepsOthers old new = (new.opens ≡ old.opens) × ((new.stopped ≡ old.stopped) × (new.short ≡ old.short))
 
 -- not out of memory
 abbrev pub IsRefusal : FrameStop → Type 0

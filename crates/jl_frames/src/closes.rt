@@ -1,6 +1,6 @@
 //! Containers that close.
-ghost use Rattle.std.specs.Prelude.{◌≡◌, ◌∷◌, true, Ok, None, IfOk, IfErr, OnErr, Option, List, false};
-ghost use Rattle.jl_frames.specs.Answers.{HasCause};
+ghost use Rattle.std.specs.Prelude.{◌≡◌, ◌∷◌, true, IfOk, IfErr, OnErr, Option, List};
+ghost use Rattle.jl_frames.specs.Answers.{Goes, Finds, IsLive, KeepsOthers};
 ghost use Rattle.jl_frames.specs.Closing.{term_of_lit};
 ghost use Rattle.jl_frames.specs.Machine as spec;
 ghost use Rattle.jl_frames.specs.declared.nodes.Node.{Node as SpecNode};
@@ -16,11 +16,8 @@ use std::alloc::Global;
 impl StackState {
     /// The innermost container closes.
     pub(crate) fn on_close(&mut self, alloc: Global) -> Result<Emits, FrameStop>
-        requires live { self.old.stopped ≡ None }
-        requires ample { self.old.short ≡ false }
-        ensures ok { IfOk result (λ quads. spec.on_close self.old.node self.old.opens ≡ Ok (quads, self.new)) }
-        ensures err { IfErr result (λ stop. HasCause stop (spec.on_close self.old.node self.old.opens)) }
-        ensures kept { OnErr result (self.new ≡ self.old) }
+        requires live { IsLive self.old }
+        ensures { Goes result (spec.on_close self.old.node self.old.opens) self.old self.new }
     {
         if self.opens.is_in_object() {
             return self.close_object(alloc);
@@ -31,12 +28,9 @@ impl StackState {
     }
 
     fn close_object(&mut self, alloc: Global) -> Result<Emits, FrameStop>
-        requires live { self.old.stopped ≡ None }
-        requires ample { self.old.short ≡ false }
+        requires live { IsLive self.old }
         requires object { spec.in_object self.old.opens ≡ true }
-        ensures ok { IfOk result (λ quads. spec.on_close self.old.node self.old.opens ≡ Ok (quads, self.new)) }
-        ensures err { IfErr result (λ stop. HasCause stop (spec.on_close self.old.node self.old.opens)) }
-        ensures kept { OnErr result (self.new ≡ self.old) }
+        ensures { Goes result (spec.on_close self.old.node self.old.opens) self.old self.new }
     {
         match self.ended(alloc)? {
             Ended::Nothing => {
@@ -51,8 +45,8 @@ impl StackState {
     /// What the innermost object gives.
     #[inline(always)]
     fn ended(&self, alloc: Global) -> Result<Ended, FrameStop>
-        ensures ok { IfOk result (λ ended. spec.ended_of self.now.node (spec.is_outside (spec.outer_of self.now.opens)) ≡ Ok ended) }
-        ensures err { IfErr result (λ stop. HasCause stop (spec.ended_of self.now.node (spec.is_outside (spec.outer_of self.now.opens)))) }
+        ensures { Finds result
+            (spec.ended_of self.now.node (spec.is_outside (spec.outer_of self.now.opens))) }
     {
         match &self.node {
             None => Ok(Ended::Nothing),
@@ -62,16 +56,18 @@ impl StackState {
 
     /// The object closes, and the one round it is the innermost again.
     fn leave(&mut self)
-        requires live { self.old.stopped ≡ None }
-        requires ample { self.old.short ≡ false }
-        ensures { (o : Option SpecNode) (k : List SpecOpen) → self.old.opens ≡ Open.Object o ∷ k → self.new ≡ spec.complete o k }
+        requires live { IsLive self.old }
+        ensures { (o : Option SpecNode) (k : List SpecOpen) → self.old.opens ≡ Open.Object o ∷ k
+            → self.new ≡ spec.complete o k }
     {
         self.pop_object();
         self.complete();
     }
 
     fn pop_object(&mut self)
-        ensures state { (o : Option SpecNode) (k : List SpecOpen) → self.old.opens ≡ Open.Object o ∷ k → self.new ≡ record self.old { node = o; opens = k } }
+        ensures state { (o : Option SpecNode) (k : List SpecOpen)
+            → self.old.opens ≡ Open.Object o ∷ k
+            → self.new ≡ record self.old { node = o; opens = k } }
         ensures live { self.new.stopped ≡ self.old.stopped }
         ensures ample { self.new.short ≡ self.old.short }
     {
@@ -82,9 +78,11 @@ impl StackState {
 
     /// A node closes: it is an item of the property round it.
     fn close_node(&mut self, alloc: Global) -> Result<Emits, FrameStop>
-        requires live { self.old.stopped ≡ None }
-        requires ample { self.old.short ≡ false }
-        ensures ok { IfOk result (λ quads. (o : Option SpecNode) (k : List SpecOpen) → self.old.opens ≡ Open.Object o ∷ k → (quads ≡ spec.hang_on o (spec.subject_of self.old.node)) × (self.new ≡ spec.complete (spec.all_holding o) k)) }
+        requires live { IsLive self.old }
+        ensures ok { IfOk result (λ quads. (o : Option SpecNode) (k : List SpecOpen)
+            → self.old.opens ≡ Open.Object o ∷ k
+            → (quads ≡ spec.hang_on o (spec.subject_of self.old.node))
+            × (self.new ≡ spec.complete (spec.all_holding o) k)) }
         ensures err { IfErr result (λ stop. stop ≡ FrameStop.NoMemory) }
         ensures kept { OnErr result (self.new ≡ self.old) }
     {
@@ -98,8 +96,9 @@ impl StackState {
     #[inline(always)]
     #[tactic(auto, using(crate::proofs::Hanging::hang_on_none))]
     fn hang_node(&mut self, alloc: Global) -> Result<Emits, NoMemory>
-        ensures ok { IfOk result (λ quads. quads ≡ spec.hang_on (spec.outer_of self.old.opens) (spec.subject_of self.old.node)) }
-        ensures others { (self.new.opens ≡ self.old.opens) × (self.new.stopped ≡ self.old.stopped) × (self.new.short ≡ self.old.short) }
+        ensures ok { IfOk result (λ quads. quads
+            ≡ spec.hang_on (spec.outer_of self.old.opens) (spec.subject_of self.old.node)) }
+        ensures others { KeepsOthers self.old self.new }
         ensures kept { OnErr result (self.new ≡ self.old) }
     {
         match &mut self.node {
@@ -111,9 +110,11 @@ impl StackState {
     /// A literal is an item of the property round its object.
     #[inline(never)]
     fn close_value(&mut self, alloc: Global, lit: Option<Lit>) -> Result<Emits, FrameStop>
-        requires live { self.old.stopped ≡ None }
-        requires ample { self.old.short ≡ false }
-        ensures ok { IfOk result (λ quads. (o : Option SpecNode) (k : List SpecOpen) → self.old.opens ≡ Open.Object o ∷ k → (quads ≡ spec.hang_on o (term_of_lit lit)) × (self.new ≡ spec.complete (spec.all_holding o) k)) }
+        requires live { IsLive self.old }
+        ensures ok { IfOk result (λ quads. (o : Option SpecNode) (k : List SpecOpen)
+            → self.old.opens ≡ Open.Object o ∷ k
+            → (quads ≡ spec.hang_on o (term_of_lit lit))
+            × (self.new ≡ spec.complete (spec.all_holding o) k)) }
         ensures err { IfErr result (λ stop. stop ≡ FrameStop.NoMemory) }
         ensures kept { OnErr result (self.new ≡ self.old) }
     {
@@ -123,7 +124,8 @@ impl StackState {
     }
 
     fn hang_literal(&self, alloc: Global, lit: Option<Lit>) -> Result<Emits, NoMemory>
-        ensures { IfOk result (λ quads. quads ≡ spec.hang_on (spec.outer_of self.now.opens) (term_of_lit lit)) }
+        ensures { IfOk result (λ quads. quads
+            ≡ spec.hang_on (spec.outer_of self.now.opens) (term_of_lit lit)) }
     {
         match self.opens.outer() {
             None => Ok(Emits::none()),
@@ -133,9 +135,9 @@ impl StackState {
 
     /// The object closes, and has given something to the property round it.
     fn leave_kept(&mut self)
-        requires live { self.old.stopped ≡ None }
-        requires ample { self.old.short ≡ false }
-        ensures { (o : Option SpecNode) (k : List SpecOpen) → self.old.opens ≡ Open.Object o ∷ k → self.new ≡ spec.complete (spec.all_holding o) k }
+        requires live { IsLive self.old }
+        ensures { (o : Option SpecNode) (k : List SpecOpen) → self.old.opens ≡ Open.Object o ∷ k
+            → self.new ≡ spec.complete (spec.all_holding o) k }
     {
         self.pop_object();
         self.hold();

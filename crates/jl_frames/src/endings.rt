@@ -1,7 +1,7 @@
 //! What an object gives as it closes (JSON-LD 1.1 API, section 5.1.2, steps 15 to 18).
-ghost use Rattle.std.specs.Prelude.{◌≡◌, Ok, Err, false, IfOk, IfErr};
+ghost use Rattle.std.specs.Prelude.{◌≡◌, Err, false};
 ghost use Rattle.std.specs.Option.{option_copied};
-ghost use Rattle.jl_frames.specs.Answers.{HasCause};
+ghost use Rattle.jl_frames.specs.Answers.{Finds};
 ghost use Rattle.jl_defs.specs.Values as values;
 ghost use Rattle.jl_frames.specs.Closing as spec;
 
@@ -19,8 +19,7 @@ impl Node {
     #[inline(always)]
     #[tactic(auto, unfolding(crate::specs::Closing::end_of))]
     pub fn end(&self, alloc: Global, drops: bool) -> Result<Ended, FrameStop>
-        ensures ok { IfOk result (λ ended. spec.end_of self.now drops ≡ Ok ended) }
-        ensures err { IfErr result (λ stop. HasCause stop (spec.end_of self.now drops)) }
+        ensures { Finds result (spec.end_of self.now drops) }
     {
         if self.entries.value {
             return self.parts.end(alloc, &self.entries, self.at, drops);
@@ -41,8 +40,8 @@ impl ValueParts {
         at: u64,
         drops: bool,
     ) -> Result<Ended, FrameStop>
-        ensures ok { IfOk result (λ ended. spec.end_value (spec.is_value_form entries.now) entries.now at self.now drops ≡ Ok ended) }
-        ensures err { IfErr result (λ stop. HasCause stop (spec.end_value (spec.is_value_form entries.now) entries.now at self.now drops)) }
+        ensures { Finds result
+            (spec.end_value (spec.is_value_form entries.now) entries.now at self.now drops) }
     {
         if !entries.is_value_form() {
             return refused(Code::InvalidValueObject, at);
@@ -61,8 +60,8 @@ impl ValueParts {
         value: &RawValue,
         drops: bool,
     ) -> Result<Ended, FrameStop>
-        ensures ok { IfOk result (λ ended. spec.end_scalar (spec.is_null value.now.scalar) entries.now at self.now value.now drops ≡ Ok ended) }
-        ensures err { IfErr result (λ stop. HasCause stop (spec.end_scalar (spec.is_null value.now.scalar) entries.now at self.now value.now drops)) }
+        ensures { Finds result (spec.end_scalar
+            (spec.is_null value.now.scalar) entries.now at self.now value.now drops) }
     {
         if is_null(&value.scalar) {
             return Ok(Ended::Nothing);
@@ -88,8 +87,9 @@ fn end_literal(
     datatype: Option<&Text>,
     language: Option<&Text>,
 ) -> Result<Ended, FrameStop>
-    ensures ok { IfOk result (λ ended. spec.end_literal (values.literal_of value.now.scalar (option_copied datatype.entry) (option_copied language.entry)) value.now.at false ≡ Ok ended) }
-    ensures err { IfErr result (λ stop. HasCause stop (spec.end_literal (values.literal_of value.now.scalar (option_copied datatype.entry) (option_copied language.entry)) value.now.at false)) }
+    ensures { Finds result (spec.end_literal
+        (values.literal_of value.now.scalar
+        (option_copied datatype.entry) (option_copied language.entry)) value.now.at false) }
 {
     match literal_of(alloc, &value.scalar, bytes_of(datatype), bytes_of(language)) {
         Ok(lit) => Ok(Ended::Value(lit)),

@@ -1,6 +1,6 @@
 //! Containers that open.
-ghost use Rattle.std.specs.Prelude.{◌≡◌, ◌∷◌, Ok, None, Some, IfOk, IfErr, OnErr, Option, false};
-ghost use Rattle.jl_frames.specs.Answers.{HasCause};
+ghost use Rattle.std.specs.Prelude.{◌≡◌, ◌∷◌, Some};
+ghost use Rattle.jl_frames.specs.Answers.{Goes, Opens, IsLive};
 ghost use Rattle.jl_frames.specs.Machine as spec;
 ghost use Rattle.jl_frames.specs.Nodes.{opened};
 ghost use Rattle.jl_frames.specs.declared.nodes.Node.{Node as SpecNode};
@@ -17,11 +17,8 @@ use super::states::{FrameStop, StackState};
 impl StackState {
     /// A container opens.
     pub(crate) fn on_enter(&mut self, frame: Frame) -> Result<Emits, FrameStop>
-        requires live { self.old.stopped ≡ None }
-        requires ample { self.old.short ≡ false }
-        ensures ok { IfOk result (λ quads. spec.on_enter frame self.old.node self.old.opens ≡ Ok (quads, self.new)) }
-        ensures err { IfErr result (λ stop. HasCause stop (spec.on_enter frame self.old.node self.old.opens)) }
-        ensures kept { OnErr result (self.new ≡ self.old) }
+        requires live { IsLive self.old }
+        ensures { Goes result (spec.on_enter frame self.old.node self.old.opens) self.old self.new }
     {
         if self.opens.is_in_dropped() {
             return self.open_dropped();
@@ -38,11 +35,9 @@ impl StackState {
 
     #[inline(always)]
     fn on_frame(&mut self, frame: Frame) -> Result<Emits, FrameStop>
-        requires live { self.old.stopped ≡ None }
-        requires ample { self.old.short ≡ false }
-        ensures ok { IfOk result (λ quads. spec.on_frame frame.role frame self.old.node self.old.opens ≡ Ok (quads, self.new)) }
-        ensures err { IfErr result (λ stop. stop ≡ FrameStop.NoMemory) }
-        ensures kept { OnErr result (self.new ≡ self.old) }
+        requires live { IsLive self.old }
+        ensures { Opens result
+            (spec.on_frame frame.role frame self.old.node self.old.opens) self.old self.new }
     {
         match frame.role {
             Role::Object => self.open_object(frame),
@@ -53,11 +48,9 @@ impl StackState {
 
     #[inline(never)]
     fn open_dropped(&mut self) -> Result<Emits, FrameStop>
-        requires live { self.old.stopped ≡ None }
-        requires ample { self.old.short ≡ false }
-        ensures ok { IfOk result (λ quads. spec.quiet self.old.node (Open.Dropped ∷ self.old.opens) ≡ Ok (quads, self.new)) }
-        ensures err { IfErr result (λ stop. stop ≡ FrameStop.NoMemory) }
-        ensures kept { OnErr result (self.new ≡ self.old) }
+        requires live { IsLive self.old }
+        ensures { Opens result
+            (spec.quiet self.old.node (Open.Dropped ∷ self.old.opens)) self.old self.new }
     {
         match self.opens.push(Open::Dropped) {
             Ok(()) => Ok(Emits::none()),
@@ -66,11 +59,10 @@ impl StackState {
     }
 
     fn open_object(&mut self, frame: Frame) -> Result<Emits, FrameStop>
-        requires live { self.old.stopped ≡ None }
-        requires ample { self.old.short ≡ false }
-        ensures ok { IfOk result (λ quads. spec.quiet (Some (opened frame)) (Open.Object self.old.node ∷ self.old.opens) ≡ Ok (quads, self.new)) }
-        ensures err { IfErr result (λ stop. stop ≡ FrameStop.NoMemory) }
-        ensures kept { OnErr result (self.new ≡ self.old) }
+        requires live { IsLive self.old }
+        ensures { Opens result
+            (spec.quiet (Some (opened frame)) (Open.Object self.old.node ∷ self.old.opens))
+            self.old self.new }
     {
         let Ok(node) = OpenNode::new(self.opens.allocator(), Node::opened(frame)) else {
             return Err(FrameStop::NoMemory);
@@ -88,11 +80,10 @@ impl StackState {
     }
 
     fn open_array(&mut self) -> Result<Emits, FrameStop>
-        requires live { self.old.stopped ≡ None }
-        requires ample { self.old.short ≡ false }
-        ensures ok { IfOk result (λ quads. spec.quiet (spec.all_holding self.old.node) (Open.Array ∷ self.old.opens) ≡ Ok (quads, self.new)) }
-        ensures err { IfErr result (λ stop. stop ≡ FrameStop.NoMemory) }
-        ensures kept { OnErr result (self.new ≡ self.old) }
+        requires live { IsLive self.old }
+        ensures { Opens result
+            (spec.quiet (spec.all_holding self.old.node) (Open.Array ∷ self.old.opens))
+            self.old self.new }
     {
         match self.opens.push(Open::Array) {
             Ok(()) => {
@@ -106,11 +97,10 @@ impl StackState {
     /// A container opens under a keyword: only an array of types may.
     #[inline(never)]
     fn on_types(&mut self, at: u64, keyword: Keyword, role: Role) -> Result<Emits, FrameStop>
-        requires live { self.old.stopped ≡ None }
-        requires ample { self.old.short ≡ false }
-        ensures ok { IfOk result (λ quads. (n : SpecNode) → self.old.node ≡ Some n → spec.on_types (spec.opens_types keyword role (spec.in_object self.old.opens)) at keyword n self.old.opens ≡ Ok (quads, self.new)) }
-        ensures err { IfErr result (λ stop. (n : SpecNode) → HasCause stop (spec.on_types (spec.opens_types keyword role (spec.in_object self.old.opens)) at keyword n self.old.opens)) }
-        ensures kept { OnErr result (self.new ≡ self.old) }
+        requires live { IsLive self.old }
+        ensures { (n : SpecNode) → self.old.node ≡ Some n → Goes result
+            (spec.on_types (spec.opens_types keyword role (spec.in_object self.old.opens))
+            at keyword n self.old.opens) self.old self.new }
     {
         if opens_types(keyword, role, self.opens.is_in_object()) {
             self.open_types()
@@ -120,11 +110,10 @@ impl StackState {
     }
 
     fn open_types(&mut self) -> Result<Emits, FrameStop>
-        requires live { self.old.stopped ≡ None }
-        requires ample { self.old.short ≡ false }
-        ensures ok { IfOk result (λ quads. spec.quiet (spec.all_typed self.old.node) (Open.Array ∷ self.old.opens) ≡ Ok (quads, self.new)) }
-        ensures err { IfErr result (λ stop. stop ≡ FrameStop.NoMemory) }
-        ensures kept { OnErr result (self.new ≡ self.old) }
+        requires live { IsLive self.old }
+        ensures { Opens result
+            (spec.quiet (spec.all_typed self.old.node) (Open.Array ∷ self.old.opens))
+            self.old self.new }
     {
         match self.opens.push(Open::Array) {
             Ok(()) => {

@@ -75,7 +75,8 @@ fn quad_of(
     object: &mut Option<Term>,
     graph: Option<&Term>,
 ) -> Result<Emits, NoMemory>
-    ensures ok { IfOk result (λ quads. quads ≡ spec.quad_with subject.now predicate.now object.old (option_copied graph.entry)) }
+    ensures ok { IfOk result (λ quads. quads
+        ≡ spec.quad_with subject.now predicate.now object.old (option_copied graph.entry)) }
     ensures err { OnErr result (object.new ≡ object.old) }
 {
     let graph = copy_of(alloc, graph)?;
@@ -93,7 +94,8 @@ fn quad_in(
     object: &mut Option<Term>,
     graph: Option<Term>,
 ) -> Result<Emits, NoMemory>
-    ensures ok { IfOk result (λ quads. quads ≡ spec.quad_with subject.now predicate.now object.old graph) }
+    ensures ok { IfOk result (λ quads. quads
+        ≡ spec.quad_with subject.now predicate.now object.old graph) }
     ensures err { OnErr result (object.new ≡ object.old) }
 {
     let subject = subject.copy(alloc)?;

@@ -1,14 +1,13 @@
 //! Open objects.
-ghost use Rattle.std.specs.Prelude.{◌≡◌, ℕ, Ok, Err, Some, IfOk, IfErr, OnOk, OnErr};
+ghost use Rattle.std.specs.Prelude.{◌≡◌, ℕ, IfOk};
 ghost use Rattle.jl_defs.specs.Dataset.{term_of_value};
 ghost use Rattle.jl_defs.specs.MemberFaults.{is_direction_text};
 ghost use Rattle.jl_defs.specs.NodeMap.{rdf_type, term_of_text};
-ghost use Rattle.jl_frames.specs.Answers.{HasCause};
+ghost use Rattle.jl_frames.specs.Answers.{Goes, Takes};
 ghost use Rattle.jl_frames.specs.Closing.{term_of_lit};
 ghost use Rattle.jl_frames.specs.declared.nodes.Node.{Node as SpecNode};
 ghost use Rattle.jl_frames.specs.Nodes as spec;
 ghost use Rattle.jl_model.specs.declared.terms.Term.{Term};
-ghost use Rattle.std.specs.Prelude.{Option};
 
 use super::emits::Emits;
 use super::entries::Entries;
@@ -74,9 +73,7 @@ impl Node {
     /// Takes a key.
     #[tactic(auto, unfolding(crate::specs::Nodes::take_key))]
     pub fn take_key(&mut self, key: KeyFact) -> Result<(), Fault>
-        ensures ok { OnOk result (spec.take_key key self.old ≡ Ok self.new) }
-        ensures err { IfErr result (λ fault. spec.take_key key self.old ≡ Err fault) }
-        ensures kept { OnErr result (self.new ≡ self.old) }
+        ensures { Takes result (spec.take_key key self.old) self.old self.new }
     {
         match Meaning::of(key.expanded) {
             Meaning::Property(name) => self.pending = Pending::Property(name),
@@ -87,9 +84,9 @@ impl Node {
     }
 
     fn take_keyword(&mut self, at: u64, keyword: Keyword) -> Result<(), Fault>
-        ensures ok { OnOk result (spec.take_once (spec.has_come keyword self.old.entries) at keyword self.old ≡ Ok self.new) }
-        ensures err { IfErr result (λ fault. spec.take_once (spec.has_come keyword self.old.entries) at keyword self.old ≡ Err fault) }
-        ensures kept { OnErr result (self.new ≡ self.old) }
+        ensures { Takes result
+            (spec.take_once (spec.has_come keyword self.old.entries) at keyword self.old)
+            self.old self.new }
     {
         if self.entries.has_come(keyword) {
             return Err(Fault {
@@ -105,9 +102,7 @@ impl Node {
     /// Takes a scalar as the value of the key read last, or in an array there.
     #[tactic(auto, unfolding(crate::specs::Nodes::take_scalar))]
     pub fn take_scalar(&mut self, alloc: Global, fact: ValueFact) -> Result<Emits, FrameStop>
-        ensures ok { IfOk result (λ quads. spec.take_scalar fact self.old ≡ Ok (quads, self.new)) }
-        ensures err { IfErr result (λ stop. HasCause stop (spec.take_scalar fact self.old)) }
-        ensures kept { OnErr result (self.new ≡ self.old) }
+        ensures { Goes result (spec.take_scalar fact self.old) self.old self.new }
     {
         match self.pending {
             Pending::Property(_) => self.take_value(alloc, fact.given),
@@ -117,9 +112,7 @@ impl Node {
     }
 
     fn take_value(&mut self, alloc: Global, given: Given) -> Result<Emits, FrameStop>
-        ensures ok { IfOk result (λ quads. spec.take_value given self.old ≡ Ok (quads, self.new)) }
-        ensures err { IfErr result (λ stop. HasCause stop (spec.take_value given self.old)) }
-        ensures kept { OnErr result (self.new ≡ self.old) }
+        ensures { Goes result (spec.take_value given self.old) self.old self.new }
     {
         match given {
             Given::Valued(valued) => {
@@ -133,7 +126,8 @@ impl Node {
 
     #[tactic(auto, using(crate::proofs::Hanging::pending_none, crate::proofs::Hanging::pending_literal))]
     fn hang_value(&self, alloc: Global, valued: Valued) -> Result<Emits, NoMemory>
-        ensures { IfOk result (λ quads. quads ≡ spec.hang_pending self.now (term_of_value (spec.as_value valued))) }
+        ensures { IfOk result (λ quads. quads
+            ≡ spec.hang_pending self.now (term_of_value (spec.as_value valued))) }
     {
         match valued {
             Valued::Reference(name) => {
@@ -163,9 +157,8 @@ impl Node {
         key_at: u64,
         fact: ValueFact,
     ) -> Result<Emits, FrameStop>
-        ensures ok { IfOk result (λ quads. spec.take_under keyword fact.given key_at fact.at self.old ≡ Ok (quads, self.new)) }
-        ensures err { IfErr result (λ stop. HasCause stop (spec.take_under keyword fact.given key_at fact.at self.old)) }
-        ensures kept { OnErr result (self.new ≡ self.old) }
+        ensures { Goes result
+            (spec.take_under keyword fact.given key_at fact.at self.old) self.old self.new }
     {
         let ValueFact { at, given } = fact;
         match given {
@@ -182,9 +175,8 @@ impl Node {
         key_at: u64,
         expanded: Expanded,
     ) -> Result<Emits, FrameStop>
-        ensures ok { IfOk result (λ quads. (at : ℕ) → spec.take_under keyword (Given.Type expanded) key_at at self.old ≡ Ok (quads, self.new)) }
-        ensures err { IfErr result (λ stop. (at : ℕ) → HasCause stop (spec.take_under keyword (Given.Type expanded) key_at at self.old)) }
-        ensures kept { OnErr result (self.new ≡ self.old) }
+        ensures { (at : ℕ) → Goes result
+            (spec.take_under keyword (Given.Type expanded) key_at at self.old) self.old self.new }
     {
         match keyword {
             Keyword::Kind => self.take_type(alloc, expanded),
@@ -200,9 +192,8 @@ impl Node {
         at: u64,
         scalar: Scalar,
     ) -> Result<Emits, FrameStop>
-        ensures ok { IfOk result (λ quads. spec.take_under keyword (Given.Written scalar) key_at at self.old ≡ Ok (quads, self.new)) }
-        ensures err { IfErr result (λ stop. HasCause stop (spec.take_under keyword (Given.Written scalar) key_at at self.old)) }
-        ensures kept { OnErr result (self.new ≡ self.old) }
+        ensures { Goes result
+            (spec.take_under keyword (Given.Written scalar) key_at at self.old) self.old self.new }
     {
         match keyword {
             Keyword::Kind => Err(wrong_form(keyword, key_at)),
@@ -230,9 +221,7 @@ impl Node {
 
     /// Says a type, or keeps it for a value object.
     fn take_type(&mut self, alloc: Global, expanded: Expanded) -> Result<Emits, FrameStop>
-        ensures ok { IfOk result (λ quads. spec.take_type self.old.valued expanded self.old ≡ Ok (quads, self.new)) }
-        ensures err { IfErr result (λ stop. HasCause stop (spec.take_type self.old.valued expanded self.old)) }
-        ensures kept { OnErr result (self.new ≡ self.old) }
+        ensures { Goes result (spec.take_type self.old.valued expanded self.old) self.old self.new }
     {
         if !self.valued {
             return Ok(self.hang_type(alloc, expanded)?);
@@ -246,7 +235,8 @@ impl Node {
 
     #[tactic(auto, using(crate::proofs::Hanging::hang_none))]
     fn hang_type(&self, alloc: Global, expanded: Expanded) -> Result<Emits, NoMemory>
-        ensures { IfOk result (λ quads. quads ≡ spec.hang self.now rdf_type (spec.term_of_type expanded)) }
+        ensures { IfOk result (λ quads. quads
+            ≡ spec.hang self.now rdf_type (spec.term_of_type expanded)) }
     {
         match expanded {
             Expanded::Null => Ok(Emits::none()),
@@ -292,8 +282,8 @@ pub fn wrong_form(keyword: Keyword, at: u64) -> FrameStop
 
 /// The direction says nothing.
 fn take_direction(text: &[u8], at: u64) -> Result<Emits, FrameStop>
-    ensures ok { IfOk result (λ quads. (n : SpecNode) → spec.take_direction (is_direction_text text.now) at n ≡ Ok (quads, n)) }
-    ensures err { IfErr result (λ stop. (n : SpecNode) → HasCause stop (spec.take_direction (is_direction_text text.now) at n)) }
+    ensures { (n : SpecNode) → Goes result
+        (spec.take_direction (is_direction_text text.now) at n) n n }
 {
     if is_direction(text) {
         Ok(Emits::none())

@@ -1,7 +1,7 @@
 //! Open objects, each behind one pointer.
-ghost use Rattle.std.specs.Prelude.{◌≡◌, Ok, Err, IfOk, IfErr, OnOk, OnErr};
+ghost use Rattle.std.specs.Prelude.{◌≡◌, IfOk, OnErr};
 ghost use Rattle.std.specs.Option.{option_copied};
-ghost use Rattle.jl_frames.specs.Answers.{HasCause};
+ghost use Rattle.jl_frames.specs.Answers.{Goes, Takes};
 ghost use Rattle.jl_frames.specs.Machine.{hang_on};
 ghost use Rattle.jl_frames.specs.Nodes as spec;
 
@@ -54,7 +54,8 @@ impl OpenNode {
         alloc: Global,
         outer: Option<&OpenNode>,
     ) -> Result<Emits, NoMemory>
-        ensures ok { IfOk result (λ quads. quads ≡ hang_on (option_copied outer.entry) self.old.subject) }
+        ensures ok { IfOk result (λ quads. quads
+            ≡ hang_on (option_copied outer.entry) self.old.subject) }
         ensures err { OnErr result (self.new ≡ self.old) }
     {
         match outer {
@@ -66,9 +67,7 @@ impl OpenNode {
     /// Takes a key.
     #[inline(always)]
     pub fn take_key(&mut self, key: KeyFact) -> Result<(), Fault>
-        ensures ok { OnOk result (spec.take_key key self.old ≡ Ok self.new) }
-        ensures err { IfErr result (λ fault. spec.take_key key self.old ≡ Err fault) }
-        ensures kept { OnErr result (self.new ≡ self.old) }
+        ensures { Takes result (spec.take_key key self.old) self.old self.new }
     {
         self.place.take_key(key)
     }
@@ -76,9 +75,7 @@ impl OpenNode {
     /// Takes a scalar as the value of the key read last, or in an array there.
     #[inline(always)]
     pub fn take_scalar(&mut self, alloc: Global, fact: ValueFact) -> Result<Emits, FrameStop>
-        ensures ok { IfOk result (λ quads. spec.take_scalar fact self.old ≡ Ok (quads, self.new)) }
-        ensures err { IfErr result (λ stop. HasCause stop (spec.take_scalar fact self.old)) }
-        ensures kept { OnErr result (self.new ≡ self.old) }
+        ensures { Goes result (spec.take_scalar fact self.old) self.old self.new }
     {
         self.place.take_scalar(alloc, fact)
     }

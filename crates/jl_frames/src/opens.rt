@@ -74,7 +74,8 @@ impl Opens {
 
     /// Closes the innermost one.
     pub fn pop(&mut self) -> Option<Open>
-        ensures { MatchOption result (self.old ≡ []) (λ container. self.old ≡ container ∷ self.new) }
+        ensures { MatchOption result (self.old ≡ [])
+            (λ container. self.old ≡ container ∷ self.new) }
     {
         self.list.pop()
     }
@@ -112,7 +113,8 @@ impl Opens {
 
     /// The innermost one, lent.
     fn innermost(&self) -> Option<&Open>
-        ensures { MatchOption result (self.now ≡ []) (λ container. (below : List Open) × (self.now ≡ container.now ∷ below)) }
+        ensures { MatchOption result (self.now ≡ [])
+            (λ container. (below : List Open) × (self.now ≡ container.now ∷ below)) }
     {
         self.list.last()
     }

@@ -1,6 +1,6 @@
 //! Keys and scalars.
-ghost use Rattle.std.specs.Prelude.{◌≡◌, Ok, None, IfOk, IfErr, OnErr, false};
-ghost use Rattle.jl_frames.specs.Answers.{HasCause, IsRefusal};
+ghost use Rattle.std.specs.Prelude.{◌≡◌, IfErr};
+ghost use Rattle.jl_frames.specs.Answers.{Goes, IsLive, KeepsOthers, IsRefusal};
 ghost use Rattle.jl_frames.specs.Machine as spec;
 
 use super::emits::Emits;
@@ -11,12 +11,10 @@ use std::alloc::Global;
 impl StackState {
     /// A key of the innermost object.
     pub(crate) fn on_key(&mut self, key: KeyFact) -> Result<Emits, FrameStop>
-        requires live { self.old.stopped ≡ None }
-        requires ample { self.old.short ≡ false }
-        ensures ok { IfOk result (λ quads. spec.on_key key self.old.node self.old.opens ≡ Ok (quads, self.new)) }
-        ensures err { IfErr result (λ stop. HasCause stop (spec.on_key key self.old.node self.old.opens)) }
+        requires live { IsLive self.old }
+        ensures goes { Goes result
+            (spec.on_key key self.old.node self.old.opens) self.old self.new }
         ensures refusal { IfErr result (λ stop. IsRefusal stop) }
-        ensures kept { OnErr result (self.new ≡ self.old) }
     {
         if !self.opens.is_in_object() {
             return Ok(Emits::none());
@@ -32,11 +30,8 @@ impl StackState {
 
     /// A scalar, as the value of a key or in an array.
     pub(crate) fn on_scalar(&mut self, alloc: Global, fact: ValueFact) -> Result<Emits, FrameStop>
-        requires live { self.old.stopped ≡ None }
-        requires ample { self.old.short ≡ false }
-        ensures ok { IfOk result (λ quads. spec.on_scalar fact self.old.node self.old.opens ≡ Ok (quads, self.new)) }
-        ensures err { IfErr result (λ stop. HasCause stop (spec.on_scalar fact self.old.node self.old.opens)) }
-        ensures kept { OnErr result (self.new ≡ self.old) }
+        requires live { IsLive self.old }
+        ensures { Goes result (spec.on_scalar fact self.old.node self.old.opens) self.old self.new }
     {
         if self.opens.is_in_dropped() {
             return Ok(Emits::none());
@@ -47,10 +42,8 @@ impl StackState {
     }
 
     fn take_scalar(&mut self, alloc: Global, fact: ValueFact) -> Result<Emits, FrameStop>
-        ensures ok { IfOk result (λ quads. spec.all_take fact self.old.node ≡ Ok (quads, self.new.node)) }
-        ensures others { (self.new.opens ≡ self.old.opens) × (self.new.stopped ≡ self.old.stopped) × (self.new.short ≡ self.old.short) }
-        ensures err { IfErr result (λ stop. HasCause stop (spec.all_take fact self.old.node)) }
-        ensures kept { OnErr result (self.new ≡ self.old) }
+        ensures goes { Goes result (spec.all_take fact self.old.node) self.old.node self.new.node }
+        ensures others { KeepsOthers self.old self.new }
     {
         match &mut self.node {
             None => Ok(Emits::none()),
@@ -60,8 +53,7 @@ impl StackState {
 
     /// A value has ended.
     pub(crate) fn complete(&mut self)
-        requires live { self.old.stopped ≡ None }
-        requires ample { self.old.short ≡ false }
+        requires live { IsLive self.old }
         ensures { self.new ≡ spec.complete self.old.node self.old.opens }
     {
         if self.opens.is_in_object() {
