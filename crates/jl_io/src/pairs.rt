@@ -45,7 +45,8 @@ fn is_whole_line(text: &[u8], bytes: &[u8]) -> bool
 
 /// The first whole line, with its line feed, and what stands after it.
 fn split_line(bytes: &[u8]) -> Option<(&[u8], &[u8])>
-    ensures lines { MatchOption result (lines.whole_lines bytes.now ≡ []) (λ parts. lines.whole_lines bytes.now ≡ parts.0.now ∷ lines.whole_lines parts.1.now) }
+    ensures lines { MatchOption result (lines.whole_lines bytes.now ≡ [])
+        (λ parts. lines.whole_lines bytes.now ≡ parts.0.now ∷ lines.whole_lines parts.1.now) }
     ensures shorter { IfSome result (λ parts. length parts.1.now < length bytes.now) }
 {
     match first_line_feed(bytes) {

@@ -26,7 +26,8 @@ pub trait ByteOut {
         requires { 0 < length bytes.now }
         ensures some { IfOk result (λ n. 0 < n) }
         ensures within { IfOk result (λ n. n ≤ length bytes.now) }
-        ensures put { IfOk result (λ n. written self.new ≡ appended (written self.old) (take n bytes.now)) }
+        ensures put { IfOk result (λ n. written self.new
+            ≡ appended (written self.old) (take n bytes.now)) }
         ensures unput { OnErr result (written self.new ≡ written self.old) }
         ensures cause { HasCause (put_faults self.old) (put_faults self.new) (IsErr result) }
         ensures beside { beside self.old self.new };
@@ -66,7 +67,8 @@ pub trait Port: ByteOut {
 
         // The bytes that it gives, and the end.
         ensures within { IfOk result (λ n. n ≤ length buf.new) }
-        ensures taken { IfOk result (λ n. taken self.new ≡ appended (taken self.old) (take n buf.new)) }
+        ensures taken { IfOk result (λ n. taken self.new
+            ≡ appended (taken self.old) (take n buf.new)) }
         ensures left { IfOk result (λ n. Leaves (left self.old) (take n buf.new) (left self.new)) }
         ensures end { IfOk result (λ n. ended self.new ≡ (n == 0)) }
         ensures none_left { IfOk result (λ n. n ≡ 0 → NoneLeft (left self.old)) }

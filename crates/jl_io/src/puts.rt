@@ -43,8 +43,10 @@ fn put_rest<B: ByteOut>(out: &mut B, bytes: &[u8]) -> Result<(), Failed>
 /// Puts these texts, one after another.
 #[inline(always)]
 pub fn put_parts<B: ByteOut>(out: &mut B, parts: &[&[u8]]) -> Result<(), Failed>
-    ensures put { OnOk result (B.written out.new ≡ appended (B.written out.old) (joined parts.now)) }
-    ensures cut { OnErr result (PutsFront (B.written out.old) (joined parts.now) (B.written out.new)) }
+    ensures put { OnOk result (B.written out.new ≡ appended (B.written out.old)
+        (joined parts.now)) }
+    ensures cut { OnErr result (PutsFront (B.written out.old) (joined parts.now)
+        (B.written out.new)) }
     ensures cause { HasCause (B.put_faults out.old) (B.put_faults out.new) (IsErr result) }
     ensures beside { B.beside out.old out.new }
 {

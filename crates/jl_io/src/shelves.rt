@@ -26,7 +26,8 @@ pub trait Shelf {
     fn fetch(&mut self, name: &[u8], out: &mut Vec<u8>) -> Result<(), FetchStop>
         ensures ok { OnOk result (Fetches (content self.old) name.now out.old.items out.new.items) }
         ensures err { OnErr result (out.new.items ≡ out.old.items) }
-        ensures cause { HasCause (faults self.old) (faults self.new) (IsErrOf result FetchStop.Failed) }
+        ensures cause { HasCause (faults self.old) (faults self.new)
+            (IsErrOf result FetchStop.Failed) }
         ensures asked { Asks (asked self.old) name.now (asked self.new) result }
         ensures content { content self.new ≡ content self.old };
 }
@@ -55,7 +56,8 @@ impl Shelf for NoShelf {
     fn fetch(&mut self, _name: &[u8], _out: &mut Vec<u8>) -> Result<(), FetchStop>
         ensures failed { result ≡ Err FetchStop.Failed }
         ensures out { _out.new.items ≡ _out.old.items }
-        ensures rose { HasCause (⟦<NoShelf as Shelf>⟧.faults self.old) (⟦<NoShelf as Shelf>⟧.faults self.new) (Unit {0}) }
+        ensures rose { HasCause (⟦<NoShelf as Shelf>⟧.faults self.old)
+            (⟦<NoShelf as Shelf>⟧.faults self.new) (Unit {0}) }
     {
         self.faults = self.faults.saturating_add(1);
         Err(FetchStop::Failed)

@@ -37,7 +37,8 @@ impl<R: Read, W: Write, E: Write> Model for StreamPort<R, W, E> {
       said = told_if p.tells_said (E.contents p.error);
     } };
 
-    ghost invariant = { λ p. TellsAlike R.remaining × TellsAlike W.contents × TellsAlike E.contents };
+    ghost invariant = { λ p. TellsAlike R.remaining × TellsAlike W.contents
+        × TellsAlike E.contents };
 }
 
 impl<R: Read, W: Write, E: Write> StreamPort<R, W, E> {

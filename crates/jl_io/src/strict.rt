@@ -27,7 +27,8 @@ impl Model for StrictPort {
 
     ghost Value = { Strict };
 
-    ghost view = { λ p. record { memory = p.memory; pairs = p.pairs.items; take_faults = p.take_faults } };
+    ghost view = { λ p. record { memory = p.memory; pairs = p.pairs.items;
+        take_faults = p.take_faults } };
 }
 
 impl StrictPort {
@@ -58,7 +59,8 @@ impl StrictPort {
 
     /// Whether each pair is met that is due by the bytes taken.
     fn may_give(&self) -> bool
-        ensures { result ≡ are_met self.now.pairs (length self.now.memory.taken) self.now.memory.written }
+        ensures { result ≡ are_met self.now.pairs (length self.now.memory.taken)
+            self.now.memory.written }
     {
         are_met(&self.pairs, self.memory.place(), self.memory.output())
     }
@@ -87,7 +89,8 @@ impl ByteOut for StrictPort {
             put_faults = counted self.old.memory.put_faults;
           };
         }) }
-        ensures cause { HasCause self.old.memory.put_faults self.new.memory.put_faults (IsErr result) }
+        ensures cause { HasCause self.old.memory.put_faults self.new.memory.put_faults
+            (IsErr result) }
     {
         self.memory.put(bytes)
     }
@@ -113,15 +116,19 @@ impl Port for StrictPort {
     fn take(&mut self, buf: &mut [u8]) -> Result<usize, Failed>
         requires some { 0 < length buf.old }
         requires open { self.old.memory.ended ≡ false }
-        ensures failed { IsErr result ↔ (are_met self.old.pairs (length self.old.memory.taken) self.old.memory.written ≡ false) }
-        ensures err { OnErr result (self.new ≡ record self.old { take_faults = counted self.old.take_faults }) }
+        ensures failed { IsErr result ↔ (are_met self.old.pairs
+            (length self.old.memory.taken) self.old.memory.written ≡ false) }
+        ensures err { OnErr result (self.new ≡ record self.old { take_faults = counted
+            self.old.take_faults }) }
         ensures cause { HasCause self.old.take_faults self.new.take_faults (IsErr result) }
 
         // What it gives, as the port over memory.
         ensures count { IfOk result (λ n. n ≡ given self.old.memory (length buf.old)) }
         ensures within { IfOk result (λ n. n ≤ length buf.new) }
-        ensures taken { IfOk result (λ n. self.new.memory.taken ≡ self.old.memory.taken ++ take n buf.new) }
-        ensures left { IfOk result (λ n. self.old.memory.left ≡ take n buf.new ++ self.new.memory.left) }
+        ensures taken { IfOk result (λ n. self.new.memory.taken ≡ self.old.memory.taken
+            ++ take n buf.new) }
+        ensures left { IfOk result (λ n. self.old.memory.left ≡ take n buf.new
+            ++ self.new.memory.left) }
         ensures end { IfOk result (λ n. self.new.memory.ended ≡ (n == 0)) }
         ensures none_left { IfOk result (λ n. n ≡ 0 → self.old.memory.left ≡ []) }
 
@@ -138,7 +145,8 @@ impl Port for StrictPort {
     }
 
     fn say(&mut self, bytes: &[u8])
-        ensures { self.new ≡ record self.old { memory = record self.old.memory { said = said_with self.old.memory.said bytes.now } } }
+        ensures { self.new ≡ record self.old { memory = record self.old.memory { said = said_with
+            self.old.memory.said bytes.now } } }
     {
         self.memory.say(bytes)
     }

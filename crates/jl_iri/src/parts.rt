@@ -30,8 +30,10 @@ pub fn parts_of(text: &[u8]) -> Parts<'_>
 }
 
 fn split_scheme(text: &[u8]) -> (Option<&[u8]>, &[u8])
-    ensures scheme { option_copied result.0 ≡ spec.scheme_of (spec.until spec.ends_scheme text.now) (spec.behind 58 (spec.from spec.ends_scheme text.now)) }
-    ensures rest { result.1.now ≡ spec.after_scheme text.now (spec.until spec.ends_scheme text.now) (spec.behind 58 (spec.from spec.ends_scheme text.now)) }
+    ensures scheme { option_copied result.0 ≡ spec.scheme_of (spec.until spec.ends_scheme text.now)
+        (spec.behind 58 (spec.from spec.ends_scheme text.now)) }
+    ensures rest { result.1.now ≡ spec.after_scheme text.now (spec.until spec.ends_scheme text.now)
+        (spec.behind 58 (spec.from spec.ends_scheme text.now)) }
 {
     let (scheme, tail) = cut_at_scheme_end(text);
     match (scheme, behind(b':', tail)) {
@@ -60,7 +62,8 @@ fn path_of(rest: &[u8]) -> &[u8]
 }
 
 fn query_of(rest: &[u8]) -> Option<&[u8]>
-    ensures { option_copied result ≡ spec.query_of (spec.behind 63 (spec.from spec.ends_path rest.now)) }
+    ensures { option_copied result ≡ spec.query_of
+        (spec.behind 63 (spec.from spec.ends_path rest.now)) }
 {
     match behind(b'?', cut_at_path_end(rest).1) {
         Some(tail) => Some(cut_at_hash(tail).0),

@@ -60,7 +60,8 @@ fn remove_segment(kept: &mut Vec<u8>)
 
 /// The first segment, and what stands behind the slash after it, if there is one.
 fn split_segment(path: &[u8]) -> (&[u8], Option<&[u8]>)
-    ensures { slice_split spec.is_slash path.now ≡ result.0.now ∷ segments_of (option_copied result.1) }
+    ensures { slice_split spec.is_slash path.now ≡ result.0.now ∷ segments_of
+        (option_copied result.1) }
 {
     match first_slash(path) {
         Some(slash) => (&path[..slash], Some(&path[slash + 1..])),

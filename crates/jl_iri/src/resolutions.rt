@@ -21,7 +21,8 @@ pub fn resolve(alloc: Global, base: &[u8], reference: &[u8]) -> Result<Text, NoM
 
 /// The components of the answer (RFC 3986, 5.2.2), but for the path, which is handed in.
 fn target<'a>(base: &Parts<'a>, reference: &Parts<'a>, path: &'a [u8]) -> Parts<'a>
-    ensures { components_in result ≡ record (spec.target (components_in base.now) (components_in reference.now)) { path = path.now } }
+    ensures { components_in result ≡ record (spec.target (components_in base.now)
+        (components_in reference.now)) { path = path.now } }
 {
     match (reference.scheme, reference.authority) {
         (Some(_), _) => Parts { path, ..*reference },
@@ -41,7 +42,8 @@ fn target<'a>(base: &Parts<'a>, reference: &Parts<'a>, path: &'a [u8]) -> Parts<
 }
 
 fn target_query<'a>(base: &Parts<'a>, reference: &Parts<'a>) -> Option<&'a [u8]>
-    ensures { option_copied result ≡ spec.target_query (components_in base.now) (components_in reference.now) (components_in reference.now).path }
+    ensures { option_copied result ≡ spec.target_query (components_in base.now)
+        (components_in reference.now) (components_in reference.now).path }
 {
     match (reference.path, reference.query) {
         ([], None) => base.query,
@@ -51,7 +53,8 @@ fn target_query<'a>(base: &Parts<'a>, reference: &Parts<'a>) -> Option<&'a [u8]>
 
 /// The path of the answer (RFC 3986, 5.2.2).
 fn target_path(alloc: Global, base: &Parts<'_>, reference: &Parts<'_>) -> Result<Vec<u8>, NoMemory>
-    ensures { IfOk result (λ path. path.items ≡ (spec.target (components_in base.now) (components_in reference.now)).path) }
+    ensures { IfOk result (λ path. path.items ≡ (spec.target (components_in base.now)
+        (components_in reference.now)).path) }
 {
     match (reference.scheme, reference.authority) {
         (None, None) => relative_path(alloc, base, reference.path),
@@ -60,7 +63,8 @@ fn target_path(alloc: Global, base: &Parts<'_>, reference: &Parts<'_>) -> Result
 }
 
 fn relative_path(alloc: Global, base: &Parts<'_>, path: &[u8]) -> Result<Vec<u8>, NoMemory>
-    ensures { IfOk result (λ whole. whole.items ≡ spec.target_path (components_in base.now) path.now) }
+    ensures { IfOk result (λ whole. whole.items ≡ spec.target_path
+        (components_in base.now) path.now) }
 {
     let Some(first) = path.first() else {
         return Ok(Vec::from_slice(alloc, base.path)?);
@@ -100,7 +104,8 @@ fn recompose(alloc: Global, parts: &Parts<'_>) -> Result<Text, NoMemory>
 
 /// Adds a component with what stands before it and behind it, where it is there.
 fn add_part(text: &mut Text, front: &[u8], part: Option<&[u8]>, back: &[u8]) -> Result<(), NoMemory>
-    ensures { OnOk result (text.new ≡ text.old ++ spec.part front.now (option_copied part.entry) back.now) }
+    ensures { OnOk result (text.new ≡ text.old ++ spec.part front.now
+        (option_copied part.entry) back.now) }
 {
     if let Some(part) = part {
         text.extend(front)?;

@@ -35,8 +35,10 @@ pub trait QuadOut {
         ensures selects { (q : Parts) → selects self.new q ≡ selects self.old q }
         ensures put { OnOk result ((quads : List Parts) → tells self.old quads →
             tells self.new (if selects self.old quad.now then quads ++ quad.now ∷ [] else quads)) }
-        ensures unput { OnErr result ((quads : List Parts) → tells self.old quads → tells self.new quads) }
-        ensures cause { HasCause (faults self.old) (faults self.new) (IsErrOf result OutStop.Failed) }
+        ensures unput { OnErr result ((quads : List Parts) → tells self.old quads
+            → tells self.new quads) }
+        ensures cause { HasCause (faults self.old) (faults self.new)
+            (IsErrOf result OutStop.Failed) }
         ensures beside { beside self.old self.new };
 
     ghost itself: { (out : Self) → beside out out };

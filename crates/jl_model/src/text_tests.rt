@@ -157,7 +157,8 @@ pub fn is_language_tag(text: &[u8]) -> bool
 /// Whether each part between dashes is of letters and digits.
 #[tactic(auto, using(crate::proofs::Subtags::subtags_go_on))]
 fn are_subtags(text: &[u8]) -> bool
-    ensures { result ≡ list_all (tags.is_some_of is_ascii_alphanumeric) (slice_split tags.is_dash text.now) }
+    ensures { result ≡ list_all (tags.is_some_of is_ascii_alphanumeric)
+        (slice_split tags.is_dash text.now) }
 {
     let mut begun = false;
     for byte in text {

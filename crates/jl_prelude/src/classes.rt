@@ -79,7 +79,8 @@ impl Classes {
     /// The classes of a key where one context alone may be that of the object.
     pub fn same(class: Class) -> Classes
         ensures classes { result ≡ record { incoming = class; kept = class; reverted = class } }
-        ensures tell { (context : Context) (name : List ℕ) → class ≡ class_of (key_of context name) → Tell (context ∷ []) name result }
+        ensures tell { (context : Context) (name : List ℕ) → class ≡ class_of (key_of context name)
+            → Tell (context ∷ []) name result }
     {
         Classes {
             incoming: class,

@@ -37,7 +37,8 @@ impl Prelude {
     /// A prelude without members. It takes no memory.
     pub fn new(alloc: Global, order: Order) -> Prelude
         ensures state { result ≡ record { order = order; members = []; weight = 0 } }
-        ensures prelude { (candidates : List Context) (of : Members) → IsPrelude candidates result.members of of }
+        ensures prelude { (candidates : List Context) (of : Members)
+            → IsPrelude candidates result.members of of }
     {
         Prelude {
             state: PreludeState {
@@ -75,9 +76,13 @@ impl Prelude {
         at: u64,
         raw: &[u8],
     ) -> Result<(), NoMemory>
-        ensures ok { OnOk result (self.new ≡ with_member self.old (record { classes = classes; key = key.now; at = at; raw = raw.now })) }
+        ensures ok { OnOk result (self.new ≡ with_member self.old
+            (record { classes = classes; key = key.now; at = at; raw = raw.now })) }
         ensures err { OnErr result (self.new ≡ self.old) }
-        ensures prelude { OnOk result ((candidates : List Context) (of : Members) (value : Tree) (rest : Members) → IsPrelude candidates self.old.members of (member at key.now value rest) → is_in_prelude candidates key.now value ≡ true → IsPrelude candidates self.new.members of rest) }
+        ensures prelude { OnOk result ((candidates : List Context) (of : Members) (value : Tree)
+            (rest : Members) → IsPrelude candidates self.old.members of
+            (member at key.now value rest) → is_in_prelude candidates key.now value ≡ true
+            → IsPrelude candidates self.new.members of rest) }
     {
         let key = Text::from_bytes(alloc, key)?;
         let raw = Text::from_bytes(alloc, raw)?;
@@ -97,8 +102,15 @@ impl Prelude {
     /// order none does. It takes no memory.
     pub fn decides(&self, classes: Classes, first: u8) -> bool
         ensures ends { result ≡ ends self.now.order classes first }
-        ensures member { self.now.order ≡ Streaming → (candidates : List Context) (name : List ℕ) (value : Tree) → Tell candidates name classes → BeginsWith value first → result ≡ not (is_in_prelude candidates name value) }
-        ensures prelude { result ≡ true → (candidates : List Context) (of : Members) (at : ℕ) (name : List ℕ) (value : Tree) (rest : Members) → IsPrelude candidates self.now.members of (member at name value rest) → Tell candidates name classes → BeginsWith value first → EndsAt candidates self.now.members of at name value rest }
+        ensures member { self.now.order ≡ Streaming
+            → (candidates : List Context) (name : List ℕ) (value : Tree)
+            → Tell candidates name classes → BeginsWith value first → result
+            ≡ not (is_in_prelude candidates name value) }
+        ensures prelude { result ≡ true → (candidates : List Context) (of : Members) (at : ℕ)
+            (name : List ℕ) (value : Tree) (rest : Members)
+            → IsPrelude candidates self.now.members of (member at name value rest)
+            → Tell candidates name classes → BeginsWith value first
+            → EndsAt candidates self.now.members of at name value rest }
     {
         match self.state.order {
             Order::Any => false,
@@ -112,8 +124,12 @@ impl Prelude {
     /// The key that ends a prelude counts as a member too, and so does a context of the object's own.
     pub fn single_id(&self) -> bool
         ensures single { result ≡ is_single_id self.now.members }
-        ensures whole { (candidates : List Context) (of : Members) → IsPrelude candidates self.now.members of no_member → EndsWith candidates self.now.members of }
-        ensures seen { (outside : Context) (looks : List Look) → AreSeen outside self.now.members looks → result ≡ contexts.is_single_id outside None looks }
+        ensures whole { (candidates : List Context) (of : Members)
+            → IsPrelude candidates self.now.members of no_member
+            → EndsWith candidates self.now.members of }
+        ensures seen { (outside : Context) (looks : List Look)
+            → AreSeen outside self.now.members looks → result
+            ≡ contexts.is_single_id outside None looks }
     {
         self.state.members.is_single_id()
     }

@@ -39,8 +39,10 @@ pub fn literal_of(
     datatype: Option<&[u8]>,
     language: Option<&[u8]>,
 ) -> Result<Option<Lit>, ValueStop>
-    ensures made { IfOk result (λ made. valued made ≡ spec.literal_of value.now (option_copied datatype.entry) (option_copied language.entry)) }
-    ensures refused { IfErr result (λ stop. Refuses stop (spec.literal_of value.now (option_copied datatype.entry) (option_copied language.entry))) }
+    ensures made { IfOk result (λ made. valued made
+        ≡ spec.literal_of value.now (option_copied datatype.entry) (option_copied language.entry)) }
+    ensures refused { IfErr result (λ stop. Refuses stop
+        (spec.literal_of value.now (option_copied datatype.entry) (option_copied language.entry))) }
 {
     match value {
         Scalar::Null => Ok(None),
@@ -66,7 +68,8 @@ fn string(
     datatype: Option<&[u8]>,
     language: Option<&[u8]>,
 ) -> Result<Option<Lit>, ValueStop>
-    ensures made { IfOk result (λ made. valued made ≡ string_literal text.now (option_copied datatype.entry) (option_copied language.entry)) }
+    ensures made { IfOk result (λ made. valued made
+        ≡ string_literal text.now (option_copied datatype.entry) (option_copied language.entry)) }
     ensures refused { IfErr result (λ stop. stop ≡ ValueStop.NoMemory) }
 {
     match language {
@@ -77,7 +80,8 @@ fn string(
 
 fn number(alloc: Global, token: &[u8], datatype: &[u8]) -> Result<Option<Lit>, ValueStop>
     ensures made { IfOk result (λ made. valued made ≡ spec.number_literal token.now datatype.now) }
-    ensures refused { IfErr result (λ stop. Refuses stop (spec.number_literal token.now datatype.now)) }
+    ensures refused { IfErr result (λ stop. Refuses stop
+        (spec.number_literal token.now datatype.now)) }
 {
     if is_xsd_double(datatype) {
         double(alloc, token, datatype)
@@ -87,8 +91,10 @@ fn number(alloc: Global, token: &[u8], datatype: &[u8]) -> Result<Option<Lit>, V
 }
 
 fn integer(alloc: Global, token: &[u8], datatype: &[u8]) -> Result<Option<Lit>, ValueStop>
-    ensures made { IfOk result (λ made. valued made ≡ spec.numbered datatype.now (numbers.integer_number token.now)) }
-    ensures refused { IfErr result (λ stop. Refuses stop (spec.numbered datatype.now (numbers.integer_number token.now))) }
+    ensures made { IfOk result (λ made. valued made
+        ≡ spec.numbered datatype.now (numbers.integer_number token.now)) }
+    ensures refused { IfErr result (λ stop. Refuses stop
+        (spec.numbered datatype.now (numbers.integer_number token.now))) }
 {
     match whole_number(999999999999999999999, token) {
         Err(code) => Err(ValueStop::Code(code)),
@@ -97,8 +103,10 @@ fn integer(alloc: Global, token: &[u8], datatype: &[u8]) -> Result<Option<Lit>, 
 }
 
 fn double(alloc: Global, token: &[u8], datatype: &[u8]) -> Result<Option<Lit>, ValueStop>
-    ensures made { IfOk result (λ made. valued made ≡ spec.numbered datatype.now (numbers.double_number token.now)) }
-    ensures refused { IfErr result (λ stop. Refuses stop (spec.numbered datatype.now (numbers.double_number token.now))) }
+    ensures made { IfOk result (λ made. valued made
+        ≡ spec.numbered datatype.now (numbers.double_number token.now)) }
+    ensures refused { IfErr result (λ stop. Refuses stop
+        (spec.numbered datatype.now (numbers.double_number token.now))) }
 {
     match whole_number(9007199254740991, token) {
         Err(code) => Err(ValueStop::Code(code)),
