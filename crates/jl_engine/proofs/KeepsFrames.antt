@@ -9,7 +9,7 @@ use Rattle.jl_defs.specs.Texts.{Text}
 use Rattle.jl_defs.specs.Context.{Context, initial}
 use Rattle.jl_defs.specs.Settings.{Settings}
 use Rattle.jl_defs.specs.Keys.{id, kind, value, language, direction, index, key_of, is_value}
-use Rattle.jl_defs.specs.ObjectContexts.{Inside, is_context_name}
+use Rattle.jl_defs.specs.ObjectContexts.{Inside}
 use Rattle.jl_defs.specs.ValueObjects.{is_json}
 use Rattle.jl_laws.specs.Spots.{Spot}
 use Rattle.jl_walk.specs.Phases.{phase_faults}
@@ -113,11 +113,11 @@ pub keeps-key : (s : Settings) (at : ℕ) (name : Text) (k : List Frame) (st : S
 keeps-key s at name k st h r = of-parts s k st (λ x. AgreesFrames s (take_key at name k) (takes_key (initial s.base) false at name x)) h (key-comes s at name k st.node st.opens h.1 r)
 
 pub keeps-leading-key : (s : Settings) (at : ℕ) (name : Text) (p : Spot) (i : Inside) (o : Object) (k : List Frame) (st : StackState) (b : Bool) → KeepsFrames s (object_frame p i o ∷ k) st → node_valued st.node ≡ b →
-    phase_faults o.phase i name at ≡ [] → is_context_name name ≡ false → (is_value (key_of (initial s.base) name) ≡ true → b ≡ true) →
+    phase_faults o.phase i name at ≡ [] → (is_value (key_of (initial s.base) name) ≡ true → b ≡ true) →
     AgreesLeading s b (take_key at name (object_frame p i o ∷ k)) (takes_key (initial s.base) true at name st)
-keeps-leading-key s at name p i o k st b h y ph c v =
+keeps-leading-key s at name p i o k st b h y ph v =
     of-parts s (object_frame p i o ∷ k) st (λ x. AgreesLeading s b (take_key at name (object_frame p i o ∷ k)) (takes_key (initial s.base) true at name x)) h
-    (leading-key s b at name p i o k st.node st.opens h.1 y ph c v)
+    (leading-key s b at name p i o k st.node st.opens h.1 y ph v)
 
 pub keeps-close : (s : Settings) (k : List Frame) (st : StackState) → KeepsFrames s k st → FitsFrames k closes → AgreesFrames s (close k) (frames.close st)
 keeps-close s k st h fits = of-parts s k st (λ x. AgreesFrames s (close k) (frames.close x)) h (container-closes s k st.node st.opens h.1 fits)

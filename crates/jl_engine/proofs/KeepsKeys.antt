@@ -1,14 +1,14 @@
--- A key comes: it is late, or of a form that isn't built, or it collides, or its value is expected.
+-- A key comes: it is of a form that isn't built, or late, or it collides, or its value is expected.
 use Rattle.std.proofs.Common.{ℕ, ◌≡◌, refl, sym, ◌∙◌, ap, subst, Bool, true, false, ◌&&◌, ◌||◌, List, [], ◌∷◌, ◌++◌, Option, Some, None, Ok, Err}
 use Rattle.jl_model.specs.declared.codes.Code.TheVariants as code
 use Rattle.jl_model.specs.declared.faults.Fault.{Fault}
 use Rattle.jl_model.specs.declared.expansions.Expanded.{Expanded}
 use Rattle.jl_defs.specs.Texts.{Text}
-use Rattle.jl_defs.specs.Context.{term, initial}
+use Rattle.jl_defs.specs.Context.{Context, term, initial}
 use Rattle.jl_defs.specs.IriExpansion.{expand_iri}
 use Rattle.jl_defs.specs.Settings.{Settings}
-use Rattle.jl_defs.specs.Keys.{Key, its_context, id, kind, value, language, direction, index, graph, included, list, set, reverse, nest, other, dropped, property, key_by, key_of, is_id, is_kind, is_value, is_language, is_direction, is_index}
-use Rattle.jl_defs.specs.ObjectContexts.{fault, Inside, is_context_name}
+use Rattle.jl_defs.specs.Keys.{Key, its_context, id, kind, value, language, direction, index, other, dropped, property, key_by, key_of, is_id, is_kind, is_value, is_language, is_direction, is_index}
+use Rattle.jl_defs.specs.ObjectContexts.{fault, Inside}
 use Rattle.jl_defs.specs.Kept.{any_key}
 use Rattle.jl_defs.specs.LateKeys.{if_so}
 use Rattle.jl_laws.specs.Spots.{Spot}
@@ -36,7 +36,7 @@ use Rattle.jl_engine.specs.Moves.{late_faults, takes_key}
 use Rattle.jl_engine.specs.KeepsFrames.{kept_pending, IsPlainEntry, AreEntries, IsExpected, KeepsParts, KeepsMarks, plain_inside, KeepsAt, KeepsIn, AgreesFrames, AgreesLeading, InRest, node_valued}
 use Rattle.jl_engine.proofs.KeepsMarked.{keyword-marked}
 use Rattle.jl_engine.proofs.KeepsTold.{other-entry, entry-added, its-marks}
-use Rattle.jl_engine.proofs.KeepsLater.{is_own, same-built, same-own, not-late}
+use Rattle.jl_engine.proofs.KeepsLater.{same-built, built-no-context, unbuilt-not-late, not-late}
 
 -- ---- an object that expects a value
 
@@ -119,9 +119,9 @@ once s b false at p i o k n outer opened q r y w f = (
 )
 
 pub key-agrees : (s : Settings) (b : Bool) (q : Key) (at : ℕ) (name : Text) (p : Spot) (i : Inside) (o : Object) (k : List Frame) (n : Node) (outer : Option Node) (opened : List Open) → KeepsAt s false p i o k n →
-    KeepsIn s false k outer opened → n.valued ≡ b → (is_value q ≡ true → b ≡ true) →
-    AgreesLeading s b (key_of_object q None at name p i o k) (moves.if_built (stage.is_built_key q None) at (λ _. after_key (take_meaning (meaning_of q) at n) (opens.Object outer ∷ opened)))
-key-agrees s b q at name p i o k n outer opened h r y v = by q v
+    KeepsIn s false k outer opened → n.valued ≡ b → stage.is_built_key q None ≡ true → (is_value q ≡ true → b ≡ true) →
+    AgreesLeading s b (key_of_object q at name p i o k) (after_key (take_meaning (meaning_of q) at n) (opens.Object outer ∷ opened))
+key-agrees s b q at name p i o k n outer opened h r y built v = by q built v
   where
     m : KeepsMarks n.entries o.entries
     m = its-marks s false p i o k n h
@@ -139,33 +139,27 @@ key-agrees s b q at name p i o k n outer opened h r y v = by q v
         subst (λ d. AgreesLeading s b (walk.unless_fault (if_so c (fault code.CollidingKeywords at ∷ [])) (λ _. walk.quiet (object_frame p i (with_keyword (entry_of q) at o) ∷ k)))
         (after_key (take_once d at q n) (opens.Object outer ∷ opened))) (sym e) a
 
-    by : (q : Key) → (is_value q ≡ true → b ≡ true) →
-        AgreesLeading s b (key_of_object q None at name p i o k) (moves.if_built (stage.is_built_key q None) at (λ _. after_key (take_meaning (meaning_of q) at n) (opens.Object outer ∷ opened)))
-    by its_context v = dropped-goes
-    by id v = collides-as keyword.Id (any_key is_id o.entries) m.id
+    by : (q : Key) → stage.is_built_key q None ≡ true → (is_value q ≡ true → b ≡ true) →
+        AgreesLeading s b (key_of_object q at name p i o k) (after_key (take_meaning (meaning_of q) at n) (opens.Object outer ∷ opened))
+    by id e v = collides-as keyword.Id (any_key is_id o.entries) m.id
         (once s b (any_key is_id o.entries) at p i o k n outer opened keyword.Id r y refl (λ e. entry-at s p i o k n keyword.Id at h tt refl tt (no-value s p i o k n id h refl)))
-    by kind v =
+    by kind e v =
         once s b false at p i o k n outer opened keyword.Kind r y refl
         (λ e. entry-at s p i o k n keyword.Kind at h tt refl (comes is_kind o.entries kind refl) (no-value s p i o k n kind h refl))
-    by value v = collides-as keyword.Value (any_key is_value o.entries) m.value
+    by value e v = collides-as keyword.Value (any_key is_value o.entries) m.value
         (once s b (any_key is_value o.entries) at p i o k n outer opened keyword.Value r y refl
         (λ e. entry-at s p i o k n keyword.Value at h tt refl (comes is_value o.entries value refl)
         (λ no-value-here. absurd (let both : true ≡ false = sym (v refl) ∙ (sym y ∙ (ap (λ z. z.valued) h.keeps.same ∙ no-value-here)) in cc))))
-    by language v = collides-as keyword.Language (any_key is_language o.entries) m.language
+    by language e v = collides-as keyword.Language (any_key is_language o.entries) m.language
         (once s b (any_key is_language o.entries) at p i o k n outer opened keyword.Language r y refl (λ e. entry-at s p i o k n keyword.Language at h tt e tt (no-value s p i o k n language h refl)))
-    by direction v = collides-as keyword.Direction (any_key is_direction o.entries) m.direction
+    by direction e v = collides-as keyword.Direction (any_key is_direction o.entries) m.direction
         (once s b (any_key is_direction o.entries) at p i o k n outer opened keyword.Direction r y refl (λ e. entry-at s p i o k n keyword.Direction at h tt refl tt (no-value s p i o k n direction h refl)))
-    by index v = collides-as keyword.Index (any_key is_index o.entries) m.index
+    by index e v = collides-as keyword.Index (any_key is_index o.entries) m.index
         (once s b (any_key is_index o.entries) at p i o k n outer opened keyword.Index r y refl (λ e. entry-at s p i o k n keyword.Index at h tt refl tt (no-value s p i o k n index h refl)))
-    by graph v = refl
-    by included v = refl
-    by list v = refl
-    by set v = refl
-    by reverse v = refl
-    by nest v = refl
-    by other v = dropped-goes
-    by dropped v = dropped-goes
-    by (property iri) v = (state (Some (record n { pending = pending.Property iri })) (opens.Object outer ∷ opened), (refl, ((refl, (no-entry s p i o k n (property_value name iri) h tt, r)), y)))
+    by other e v = dropped-goes
+    by dropped e v = dropped-goes
+    by (property iri) e v = (state (Some (record n { pending = pending.Property iri })) (opens.Object outer ∷ opened), (refl, ((refl, (no-entry s p i o k n (property_value name iri) h tt, r)), y)))
+    by q e v = absurd cc
 
 -- ---- a key as it is told
 
@@ -193,40 +187,51 @@ phase-at s held p i o k n ph h = record {
   no_json = h.no_json;
 }
 
--- what a key that isn't late does to the stack
-told-key : Settings → ℕ → Text → Node → List Open → Step
-told-key s at name n opened =
-    moves.if_built (is_built_key (expand_iri (initial s.base) name true false)) at (λ _. frames.key (record { at = at; expanded = expand_iri (initial s.base) name true false }) (state (Some n) opened))
-
+-- a key of a form that is built, in the context of its object
 decided-key : (s : Settings) (b : Bool) (e : Expanded) (at : ℕ) (name : Text) (p : Spot) (i : Inside) (o : Object) (k : List Frame) (n : Node) (outer : Option Node) (opened : List Open) → KeepsAt s false p i o k n →
-    KeepsIn s false k outer opened → n.valued ≡ b → is_own (key_by e) ≡ false → (is_value (key_by e) ≡ true → b ≡ true) →
-    AgreesLeading s b (key_of_object (key_by e) None at name p i o k)
-    (moves.if_built (is_built_key e) at (λ _. frames.key (record { at = at; expanded = e }) (state (Some n) (opens.Object outer ∷ opened))))
+    KeepsIn s false k outer opened → n.valued ≡ b → stage.is_built_key (key_by e) None ≡ true → (is_value (key_by e) ≡ true → b ≡ true) →
+    AgreesLeading s b (key_of_object (key_by e) at name p i o k) (frames.key (record { at = at; expanded = e }) (state (Some n) (opens.Object outer ∷ opened)))
 unfolding frames.key nodes.take_key
-decided-key s b e at name p i o k n outer opened h r y own v =
-    subst (λ z. AgreesLeading s b (key_of_object (key_by e) None at name p i o k) (moves.if_built z at (λ _. after_key (take_meaning (meaning_of (key_by e)) at n) (opens.Object outer ∷ opened))))
-    (sym (same-built e own)) (key-agrees s b (key_by e) at name p i o k n outer opened h r y v)
+decided-key s b e at name p i o k n outer opened h r y built v = key-agrees s b (key_by e) at name p i o k n outer opened h r y built v
 
--- in the context of its object
-key-in-object : (s : Settings) (b : Bool) (at : ℕ) (name : Text) (p : Spot) (i : Inside) (o : Object) (k : List Frame) (n : Node) (outer : Option Node) (opened : List Open) → KeepsAt s false p i o k n →
-    KeepsIn s false k outer opened → n.valued ≡ b → is_own (key_of (initial s.base) name) ≡ false → (is_value (key_of (initial s.base) name) ≡ true → b ≡ true) →
-    AgreesLeading s b (key_of_object (key_of i.final name) (term i.final name) at name p i (with_phase (follow o.phase i name) o) k) (told-key s at name n (opens.Object outer ∷ opened))
-unfolding key_of told-key
-key-in-object s b at name p i o k n outer opened h r y own v =
-    subst (λ c. AgreesLeading s b (key_of_object (key_of c name) (term c name) at name p i (with_phase (follow o.phase i name) o) k) (told-key s at name n (opens.Object outer ∷ opened)))
-    (sym (ap (λ j. j.final) h.plain))
-    (decided-key s b (expand_iri (initial s.base) name true false) at name p i (with_phase (follow o.phase i name) o) k n outer opened (phase-at s false p i o k n (follow o.phase i name) h) r y own v)
+-- both are of a form that is built, or neither is; then both are late, or neither is
+told-so : (s : Settings) (b c : Bool) (at : ℕ) (fs gs : List Fault) (next : Unit {0} → walk.Step) (then : Unit {0} → Step) → (c ≡ false → gs ≡ []) → (c ≡ true → fs ≡ gs) →
+    (c ≡ true → gs ≡ [] → AgreesLeading s b (next tt) (then tt)) → AgreesLeading s b (walk.if_built c at (λ _. walk.unless_fault fs next)) (moves.unless gs (λ _. moves.if_built c at then))
+told-so s b false at fs gs next then e f g = ap (λ x. moves.unless x (λ _. moves.if_built false at then)) (e refl)
+told-so s b true at fs gs next then e f g = subst (λ x. AgreesLeading s b (walk.unless_fault x next) (moves.unless gs (λ _. then tt))) (sym (f refl)) (by gs (g refl))
+  where
+    by : (fs : List Fault) → (fs ≡ [] → AgreesLeading s b (next tt) (then tt)) → AgreesLeading s b (walk.unless_fault fs next) (moves.unless fs (λ _. then tt))
+    by [] h = h refl
+    by (x ∷ fs) h = refl
+
+-- a key comes to an object
+key-told : (s : Settings) (b leading : Bool) (at : ℕ) (name : Text) (p : Spot) (i : Inside) (o : Object) (k : List Frame) (n : Node) (outer : Option Node) (opened : List Open) → KeepsAt s false p i o k n →
+    KeepsIn s false k outer opened → n.valued ≡ b →
+    (let q = key_of (initial s.base) name in
+    let late = moves.unless_leading leading (late_faults q at) in
+    (stage.is_built_key q None ≡ false → late ≡ []) → (stage.is_built_key q None ≡ true → phase_faults o.phase i name at ≡ late) → (late ≡ [] → is_value q ≡ true → b ≡ true) →
+    AgreesLeading s b (take_key at name (object_frame p i o ∷ k)) (takes_key (initial s.base) leading at name (state (Some n) (opens.Object outer ∷ opened))))
+unfolding take_key key_of
+key-told s b leading at name p i o k n outer opened h r y unbuilt same v =
+    let c = initial s.base in
+    let e = expand_iri c name true false in
+    let late = moves.unless_leading leading (late_faults (key_of c name) at) in
+    let ph = follow o.phase i name in
+    let next : Context → Unit {0} → walk.Step = λ d _. key_of_object (key_of d name) at name p i (with_phase ph o) k in
+    let then : Unit {0} → Step = λ _. frames.key (record { at = at; expanded = e }) (state (Some n) (opens.Object outer ∷ opened)) in
+    subst (λ d. AgreesLeading s b (walk.if_built (stage.is_built_key (key_of d name) (term d name)) at (λ _. walk.unless_fault (phase_faults o.phase i name at) (next d)))
+    (moves.unless late (λ _. moves.if_built (is_built_key e) at then))) (sym (ap (λ j. j.final) h.plain))
+    (subst (λ z. AgreesLeading s b (walk.if_built (stage.is_built_key (key_of c name) None) at (λ _. walk.unless_fault (phase_faults o.phase i name at) (next c)))
+    (moves.unless late (λ _. moves.if_built z at then))) (sym (same-built e))
+    (told-so s b (stage.is_built_key (key_of c name) None) at (phase_faults o.phase i name at) late (next c) then unbuilt same
+    (λ built none. decided-key s b e at name p i (with_phase ph o) k n outer opened (phase-at s false p i o k n ph h) r y built (v none))))
 
 -- a leading key is told again as it was held
 pub leading-key : (s : Settings) (b : Bool) (at : ℕ) (name : Text) (p : Spot) (i : Inside) (o : Object) (k : List Frame) (n : Option Node) (opened : List Open) →
-    KeepsIn s false (object_frame p i o ∷ k) n opened → node_valued n ≡ b → phase_faults o.phase i name at ≡ [] → is_context_name name ≡ false →
-    (is_value (key_of (initial s.base) name) ≡ true → b ≡ true) →
+    KeepsIn s false (object_frame p i o ∷ k) n opened → node_valued n ≡ b → phase_faults o.phase i name at ≡ [] → (is_value (key_of (initial s.base) name) ≡ true → b ≡ true) →
     AgreesLeading s b (take_key at name (object_frame p i o ∷ k)) (takes_key (initial s.base) true at name (state n opened))
-unfolding take_key told-key
-leading-key s b at name p i o k (Some n) (opens.Object outer ∷ opened) h y ph c v =
-    subst (λ fs. AgreesLeading s b (walk.unless_fault fs (λ _. key_of_object (key_of i.final name) (term i.final name) at name p i (with_phase (follow o.phase i name) o) k)) (told-key s at name n (opens.Object outer ∷ opened)))
-    (sym ph) (key-in-object s b at name p i o k n outer opened h.0 h.1 y (sym (same-own s.base name) ∙ c) v)
-leading-key s b at name p i o k n opened h y ph c v = absurd h
+leading-key s b at name p i o k (Some n) (opens.Object outer ∷ opened) h y ph v = key-told s b true at name p i o k n outer opened h.0 h.1 y (λ _. refl) (λ _. ph) (λ _. v)
+leading-key s b at name p i o k n opened h y ph v = absurd h
 
 -- ---- a key of the rest
 
@@ -234,41 +239,32 @@ pub agrees-frames : (s : Settings) (b : Bool) (r : walk.Step) (t : Step) → Agr
 agrees-frames s b (Ok r) t h = (h.0, (h.1.0, h.1.1.0))
 agrees-frames s b (Err f) t h = h
 
--- what makes a key of the rest late
-abbrev late_list : Key → Bool → ℕ → List Fault
-late_list q own at =
-    if_so own (fault code.LateContext at ∷ [])
-    ++ ([] ++ (if_so (is_kind q || is_kind q) (fault code.LateType at ∷ [])
-    ++ (if_so (is_id q) (fault code.LateIdentifier at ∷ []) ++ if_so (is_value q || (false && is_value q)) (fault code.LateValue at ∷ []))))
+-- what makes a key of the rest late by the walk
+abbrev late_list : Key → ℕ → List Fault
+late_list q at =
+    if_so (is_kind q || is_kind q) (fault code.LateType at ∷ [])
+    ++ (if_so (is_id q) (fault code.LateIdentifier at ∷ []) ++ if_so (is_value q || (false && is_value q)) (fault code.LateValue at ∷ []))
 
-late-agrees : (s : Settings) (q : Key) (at : ℕ) (next : Unit {0} → walk.Step) (then : Unit {0} → Step) → (late_faults q at ≡ [] → AgreesFrames s (next tt) (then tt)) →
-    AgreesFrames s (walk.unless_fault (late_list q (is_own q) at) next) (moves.unless (late_faults q at) then)
-late-agrees s its_context at next then f = refl
-late-agrees s id at next then f = refl
-late-agrees s kind at next then f = refl
-late-agrees s value at next then f = refl
-late-agrees s q at next then f = f refl
+late-same : (q : Key) (at : ℕ) → late_list q at ≡ late_faults q at
+late-same its_context at = refl
+late-same q at = refl
 
-rest-faults : (s : Settings) (i : Inside) (o : Object) (name : Text) (at : ℕ) → i ≡ plain_inside s i.input → o.phase ≡ in_rest →
-    phase_faults o.phase i name at ≡ late_list (key_of (initial s.base) name) (is_own (key_of (initial s.base) name)) at
-rest-faults s i o name at e ph =
+rest-faults : (s : Settings) (i : Inside) (o : Object) (name : Text) (at : ℕ) → i ≡ plain_inside s i.input → o.phase ≡ in_rest → stage.is_built_key (key_of (initial s.base) name) None ≡ true →
+    phase_faults o.phase i name at ≡ late_faults (key_of (initial s.base) name) at
+rest-faults s i o name at e ph built =
     ap (λ x. phase_faults x i name at) ph
     ∙ (ap (λ j. phase_faults in_rest j name at) e
-    ∙ ap (λ b. late_list (key_of (initial s.base) name) b at) (same-own s.base name))
+    ∙ (ap (λ b. if_so b (fault code.LateContext at ∷ []) ++ late_list (key_of (initial s.base) name) at) (built-no-context s.base name built)
+    ∙ late-same (key_of (initial s.base) name) at))
 
 rest-key : (s : Settings) (at : ℕ) (name : Text) (p : Spot) (i : Inside) (o : Object) (k : List Frame) (n : Node) (outer : Option Node) (opened : List Open) → KeepsAt s false p i o k n →
     KeepsIn s false k outer opened → o.phase ≡ in_rest →
     AgreesFrames s (take_key at name (object_frame p i o ∷ k)) (takes_key (initial s.base) false at name (state (Some n) (opens.Object outer ∷ opened)))
-unfolding take_key told-key
 rest-key s at name p i o k n outer opened h r ph =
-    subst (λ fs. AgreesFrames s (walk.unless_fault fs (λ _. key_of_object (key_of i.final name) (term i.final name) at name p i (with_phase (follow o.phase i name) o) k))
-    (takes_key (initial s.base) false at name (state (Some n) (opens.Object outer ∷ opened))))
-    (sym (rest-faults s i o name at h.plain ph))
-    (late-agrees s (key_of (initial s.base) name) at (λ _. key_of_object (key_of i.final name) (term i.final name) at name p i (with_phase (follow o.phase i name) o) k)
-    (λ _. told-key s at name n (opens.Object outer ∷ opened))
-    (λ e. agrees-frames s n.valued (key_of_object (key_of i.final name) (term i.final name) at name p i (with_phase (follow o.phase i name) o) k) (told-key s at name n (opens.Object outer ∷ opened))
-    (key-in-object s n.valued at name p i o k n outer opened h r refl (not-late (key_of (initial s.base) name) at e).0
-    (λ yes. absurd (let both : true ≡ false = sym yes ∙ (not-late (key_of (initial s.base) name) at e).1 in cc)))))
+    let q = key_of (initial s.base) name in
+    agrees-frames s n.valued (take_key at name (object_frame p i o ∷ k)) (takes_key (initial s.base) false at name (state (Some n) (opens.Object outer ∷ opened)))
+    (key-told s n.valued false at name p i o k n outer opened h r refl (unbuilt-not-late q at) (rest-faults s i o name at h.plain ph)
+    (λ e yes. absurd (let both : true ≡ false = sym yes ∙ not-late q at e in cc)))
 
 pub key-comes : (s : Settings) (at : ℕ) (name : Text) (k : List Frame) (n : Option Node) (opened : List Open) → KeepsIn s false k n opened → InRest k →
     AgreesFrames s (take_key at name k) (takes_key (initial s.base) false at name (state n opened))

@@ -1,12 +1,12 @@
 -- What keys mean in a context without terms: which of them belong to forms that aren't built, and which come too late.
-use Rattle.std.proofs.Common.{if◌then◌else◌, ℕ, ◌≡◌, refl, sym, ◌∙◌, ap, subst, Bool, true, false, not, ◌||◌, [], Option, Some, None, codes, bytes_eq}
+use Rattle.std.proofs.Common.{if◌then◌else◌, ℕ, ◌≡◌, refl, sym, ◌∙◌, ap, subst, Bool, true, false, not, ◌||◌, [], Option, None, codes, bytes_eq}
 use Rattle.std.specs.List.{list_any}
 use Rattle.std.proofs.lemmas.Slice.Eq.{bytes_eq-Decides}
 use Rattle.jl_model.specs.declared.expansions.Expanded.{Expanded}
 use Rattle.jl_model.specs.declared.expansions.Expanded.TheVariants as expanded
-use Rattle.jl_defs.specs.Texts.{Text, is_iri, is_colon, is_among, is_keyword, has_keyword_form}
+use Rattle.jl_defs.specs.Texts.{Text, is_colon, is_among, is_keyword}
 use Rattle.jl_defs.specs.Context.{initial}
-use Rattle.jl_defs.specs.IriExpansion.{Compact, compact, has_no_prefix, by_vocab, by_prefix, by_name, expand_iri}
+use Rattle.jl_defs.specs.IriExpansion.{expand_iri}
 use Rattle.jl_defs.specs.Keys.{Key, its_context, id, kind, value, language, direction, index, graph, included, list, set, reverse, nest, other, dropped, property, keyword_key, key_by, key_of, is_value}
 use Rattle.jl_defs.specs.ObjectContexts.{is_context_name}
 use Rattle.jl_walk.specs.Stage as stage
@@ -72,104 +72,31 @@ built-key expanded.Null = refl
 built-key (expanded.Keyword text) = ap not (same-later text)
 built-key (expanded.Name text) = sym (ap not (named-later (list_any is_colon text) text))
 
-abbrev pub is_own : Key → Bool
-is_own its_context = true
-is_own k = false
-
-not-later : (q : Key) → is_own q ≡ false → not (is_later q) ≡ stage.is_built_key q None
-not-later its_context e = absurd cc
-not-later id e = refl
-not-later kind e = refl
-not-later value e = refl
-not-later language e = refl
-not-later direction e = refl
-not-later index e = refl
-not-later graph e = refl
-not-later included e = refl
-not-later list e = refl
-not-later set e = refl
-not-later reverse e = refl
-not-later nest e = refl
-not-later other e = refl
-not-later dropped e = refl
-not-later (property name) e = refl
+not-later : (q : Key) → not (is_later q) ≡ stage.is_built_key q None
+not-later its_context = refl
+not-later q = refl
 
 -- the walk and the stack know the same keys as those that are built
-pub same-built : (e : Expanded) → is_own (key_by e) ≡ false → is_built_key e ≡ stage.is_built_key (key_by e) None
-same-built e h = built-key e ∙ not-later (key_by e) h
+pub same-built : (e : Expanded) → is_built_key e ≡ stage.is_built_key (key_by e) None
+same-built e = built-key e ∙ not-later (key_by e)
 
--- ---- `@context`
-
-unless-own : (b : Bool) (k final : Key) → is_own k ≡ false → is_own final ≡ false → is_own (if b then k else final) ≡ false
-unless-own true k final e f = e
-unless-own false k final e f = f
-
--- the other keywords
-abbrev others : Text → Key
-others text =
-    if bytes_eq text (codes "@id") then id
-    else (if bytes_eq text (codes "@type") then kind
-    else (if bytes_eq text (codes "@value") then value
-    else (if bytes_eq text (codes "@language") then language
-    else (if bytes_eq text (codes "@direction") then direction
-    else (if bytes_eq text (codes "@index") then index
-    else (if bytes_eq text (codes "@graph") then graph
-    else (if bytes_eq text (codes "@included") then included
-    else (if bytes_eq text (codes "@list") then list
-    else (if bytes_eq text (codes "@set") then set
-    else (if bytes_eq text (codes "@reverse") then reverse
-    else (if bytes_eq text (codes "@nest") then nest else other)))))))))))
-
-keyword-own : (text : Text) → is_context_name text ≡ false → is_own (keyword_key text) ≡ false
-keyword-own text e = by (bytes_eq text (codes "@context")) e
-  where
-    by : (b : Bool) → b ≡ false → is_own (if b then its_context else others text) ≡ false
-    by true h = absurd cc
-    by false h =
-        unless-own (bytes_eq text (codes "@id")) id _ refl (unless-own (bytes_eq text (codes "@type")) kind _ refl (unless-own (bytes_eq text (codes "@value")) value _ refl
-        (unless-own (bytes_eq text (codes "@language")) language _ refl (unless-own (bytes_eq text (codes "@direction")) direction _ refl (unless-own (bytes_eq text (codes "@index")) index _ refl
-        (unless-own (bytes_eq text (codes "@graph")) graph _ refl (unless-own (bytes_eq text (codes "@included")) included _ refl (unless-own (bytes_eq text (codes "@list")) list _ refl
-        (unless-own (bytes_eq text (codes "@set")) set _ refl (unless-own (bytes_eq text (codes "@reverse")) reverse _ refl (unless-own (bytes_eq text (codes "@nest")) nest other refl refl)))))))))))
-
-name-own : (b : Bool) (text : Text) → is_own (elim b [ true ↦ property text | false ↦ dropped ]) ≡ false
-name-own true text = refl
-name-own false text = refl
-
--- a text that is no keyword is itself
-plain-prefix : (b : Option Text) (text : Text) (k : Option Compact) → by_prefix (initial b) text true false k ≡ expanded.Name text
-plain-prefix b text None = refl
-plain-prefix b text (Some k) = by (has_no_prefix k) (is_iri text)
-  where
-    by : (x y : Bool) → ◌≡◌ {A = Expanded} (elim x [ true ↦ expanded.Name text | false ↦ elim y [ true ↦ expanded.Name text | false ↦ by_vocab (initial b) text true false ] ]) (expanded.Name text)
-    by true y = refl
-    by false true = refl
-    by false false = refl
-
-other-own : (b : Option Text) (n : Text) → is_context_name n ≡ false → is_own (key_of (initial b) n) ≡ false
-unfolding key_of expand_iri
-other-own b n e = by (is_keyword n) (has_keyword_form n)
-  where
-    by : (x y : Bool) → is_own (key_by (elim x [ true ↦ expanded.Keyword n | false ↦ elim y [ true ↦ expanded.Null | false ↦ by_name (initial b) n true false ] ])) ≡ false
-    by true y = keyword-own n e
-    by false true = refl
-    by false false = ap (λ z. is_own (key_by z)) (plain-prefix b n (compact n)) ∙ name-own (list_any is_colon n) n
-
-its-own : (b : Option Text) (n : Text) → is_context_name n ≡ true → key_of (initial b) n ≡ its_context
+-- `@context` isn't among them
+pub built-no-context : (b : Option Text) (n : Text) → stage.is_built_key (key_of (initial b) n) None ≡ true → is_context_name n ≡ false
 unfolding key_of expand_iri is_keyword
-its-own b n e = subst (λ t. key_of (initial b) t ≡ its_context) (sym ((bytes_eq-Decides n (codes "@context")).0 e)) refl
-
--- a name is that of a context where its key means one
-pub same-own : (b : Option Text) (n : Text) → is_context_name n ≡ is_own (key_of (initial b) n)
-same-own b n = by (is_context_name n) refl
+built-no-context b n e = by (is_context_name n) refl
   where
-    by : (x : Bool) → is_context_name n ≡ x → x ≡ is_own (key_of (initial b) n)
-    by true e = sym (ap is_own (its-own b n e))
-    by false e = sym (other-own b n e)
+    by : (x : Bool) → is_context_name n ≡ x → x ≡ false
+    by false f = refl
+    by true f = absurd (let z : true ≡ false = sym e ∙ ap (λ t. stage.is_built_key (key_of (initial b) t) None) ((bytes_eq-Decides n (codes "@context")).0 f) in cc)
 
--- what isn't late is neither a context nor a value
-pub not-late : (q : Key) (at : ℕ) → late_faults q at ≡ [] → (is_own q ≡ false) × (is_value q ≡ false)
-not-late its_context at e = absurd cc
-not-late id at e = absurd cc
-not-late kind at e = absurd cc
+-- what isn't built isn't late
+pub unbuilt-not-late : (q : Key) (at : ℕ) → stage.is_built_key q None ≡ false → late_faults q at ≡ []
+unbuilt-not-late id at e = absurd cc
+unbuilt-not-late kind at e = absurd cc
+unbuilt-not-late value at e = absurd cc
+unbuilt-not-late q at e = refl
+
+-- nor is what isn't late a value
+pub not-late : (q : Key) (at : ℕ) → late_faults q at ≡ [] → is_value q ≡ false
 not-late value at e = absurd cc
-not-late q at e = (refl, refl)
+not-late q at e = refl

@@ -1,7 +1,6 @@
 -- What was held is told to the stack as it is fed to the frames.
-use Rattle.std.proofs.Common.{ℕ, ◌≡◌, refl, sym, ◌∙◌, ap, subst, Bool, true, false, List, [], ◌∷◌, Option, None, is_some, Ok, Err, codes}
+use Rattle.std.proofs.Common.{ℕ, ◌≡◌, refl, sym, ◌∙◌, ap, subst, Bool, true, false, List, [], ◌∷◌, Option, None, is_some, Ok, Err}
 use Rattle.std.specs.Prelude.{Result}
-use Rattle.std.proofs.lemmas.Slice.Eq.{bytes_eq-Decides}
 use Rattle.jl_model.specs.JsonTree.{scalar, array, object, Trees, no_item, Members, no_member}
 use Rattle.jl_model.specs.Parts.{Parts}
 use Rattle.jl_model.specs.declared.scalars.Scalar.{Scalar}
@@ -11,9 +10,8 @@ use Rattle.jl_model.specs.declared.graph_scopes.GraphScope.{GraphScope}
 use Rattle.jl_model.specs.declared.codes.Code.TheVariants as code
 use Rattle.jl_model.specs.declared.faults.Fault.{Fault}
 use Rattle.jl_model.specs.declared.expansions.Expanded.{Expanded}
-use Rattle.jl_defs.specs.Texts.{Text, is_keyword}
+use Rattle.jl_defs.specs.Texts.{Text}
 use Rattle.jl_defs.specs.Context.{Context, TermDef, term, initial}
-use Rattle.jl_defs.specs.IriExpansion.{expand_iri}
 use Rattle.jl_defs.specs.Settings.{Settings}
 use Rattle.jl_defs.specs.Keys.{Key, id, kind, value, language, direction, index, key_of, is_leading, is_kind, is_value}
 use Rattle.jl_defs.specs.MemberFaults.{shape_faults, key_faults}
@@ -35,20 +33,12 @@ use Rattle.jl_engine.specs.Reading.{Read, on_stack, opens_object, at_step}
 use Rattle.jl_engine.specs.KeepsFrames.{KeepsFrames, plain_inside, node_valued}
 use Rattle.jl_engine.specs.declared.events.Event.TheVariants as events
 use Rattle.jl_engine.specs.declared.readers.Reader.{Reader}
+use Rattle.jl_engine.proofs.KeepsLater.{built-no-context}
 use Rattle.jl_engine.proofs.KeepsFrames.{keeps-array, keeps-close-types, keeps-leading-key, keeps-other, keeps-scalar, value-here}
 use Rattle.jl_engine.proofs.KeepsLeadAgrees.{AgreesTo, plain_reader, OnLeading, on-leading, stops-so}
 use Rattle.jl_engine.proofs.KeepsLeadRests.{part-phase, key-phase}
 
 -- ---- keys that lead
-
--- the name `@context` doesn't lead
-pub leads-no-context : (b : Option Text) (n : Text) → is_leading (key_of (initial b) n) ≡ true → is_context_name n ≡ false
-unfolding key_of expand_iri is_keyword
-leads-no-context b n e = by (is_context_name n) refl
-  where
-    by : (x : Bool) → is_context_name n ≡ x → x ≡ false
-    by false f = refl
-    by true f = absurd (let z : true ≡ false = sym e ∙ ap (λ t. is_leading (key_of (initial b) t)) ((bytes_eq-Decides n (codes "@context")).0 f) in cc)
 
 built-leads : (q : Key) (t : Option TermDef) → is_leading q ≡ true → is_built_key q t ≡ true
 built-leads id t e = refl
@@ -58,6 +48,10 @@ built-leads language t e = refl
 built-leads direction t e = refl
 built-leads index t e = refl
 built-leads q t e = absurd cc
+
+-- the name `@context` doesn't lead
+pub leads-no-context : (b : Option Text) (n : Text) → is_leading (key_of (initial b) n) ≡ true → is_context_name n ≡ false
+leads-no-context b n e = built-no-context b n (built-leads (key_of (initial b) n) None e)
 
 key-expects : (q : Key) (a : ℕ) (n : Text) (o : Object) → is_leading q ≡ true → (with_key q a n o).expects ≡ keyword_value q a
 key-expects id a n o e = refl
@@ -163,8 +157,8 @@ key-goes s input a n p o k e h =
     let i = plain_inside s input in
     let q = key_of (initial s.base) n in
     let o1 = with_phase (follow o.phase i n) o in
-    ap (λ fs. unless_fault fs (λ _. key_of_object q (term i.final n) a n p i o1 k)) h
-    ∙ ap (λ x. if_built x a (λ _. unless_fault (key_faults q p.under (seen_by o1) a) (λ _. quiet (object_frame p i (with_key q a n o1) ∷ k)))) (built-leads q (term i.final n) e)
+    ap (λ x. if_built x a (λ _. unless_fault (phase_faults o.phase i n a) (λ _. key_of_object q a n p i o1 k))) (built-leads q (term i.final n) e)
+    ∙ ap (λ fs. unless_fault fs (λ _. key_of_object q a n p i o1 k)) h
 
 pub leading-key : (s : Settings) (input : Expanded) (a : ℕ) (n : Text) (p : Spot) (k : List Frame) (ph next : Phase) (v : Bool) (l : List Frame) (r : Reader) →
     is_leading (key_of (initial s.base) n) ≡ true → (is_value (key_of (initial s.base) n) ≡ true → v ≡ true) →
@@ -183,7 +177,7 @@ leading-key s input a n p k ph next v l r e val fs fl x =
     (key-expects q a n o1 e) (key-phase q a n o1 ∙ (ap (λ y. follow y i n) x.phase ∙ fl))
     (subst (λ y. AgreesTo (OnLeading s v) y (at_step c true (events.Key a n) (plain_reader x.stack))) (key-goes s input a n p o k e none)
     (on-leading s v (take_key a n (object_frame p i o ∷ k)) _ x.stack
-    (keeps-leading-key s a n p i o k x.stack v x.keeps x.valued none (leads-no-context s.base n e) val)))))
+    (keeps-leading-key s a n p i o k x.stack v x.keeps x.valued none val)))))
 
 -- its scalar
 part-goes : (s : Settings) (q : Key) (a b : ℕ) (v : Scalar) (p : Spot) (i : Inside) (o : Object) (k : List Frame) → o.expects ≡ keyword_value q a →

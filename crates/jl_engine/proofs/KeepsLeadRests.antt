@@ -121,8 +121,8 @@ key-begins a n p i o k e r =
     let q = key_of i.final n in
     let next = with_key q a n (with_phase (follow o.phase i n) o) in
     let h : AllRest (object_frame p i next ∷ k) = (key-phase q a n (with_phase (follow o.phase i n) o) ∙ e, r) in
-    unless-rests (phase_faults o.phase i n a) _
-    (built-rests (is_built_key q (term i.final n)) a _ (unless-brings (key_faults q p.under (seen_by (with_phase (follow o.phase i n) o)) a) [] (object_frame p i next ∷ k) h))
+    built-rests (is_built_key q (term i.final n)) a _
+    (unless-rests (phase_faults o.phase i n a) _ (unless-brings (key_faults q p.under (seen_by (with_phase (follow o.phase i n) o)) a) [] (object_frame p i next ∷ k) h))
 
 pub key-rests : (a : ℕ) (n : Text) (k : List Frame) → AllRest k → RestsIn (take_key a n k)
 unfolding take_key

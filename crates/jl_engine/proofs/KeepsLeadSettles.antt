@@ -5,7 +5,7 @@ use Rattle.jl_model.specs.JsonTree.{Members, no_member, member}
 use Rattle.jl_model.specs.declared.codes.Code.TheVariants as code
 use Rattle.jl_model.specs.declared.expansions.Expanded.{Expanded}
 use Rattle.jl_defs.specs.Texts.{Text}
-use Rattle.jl_defs.specs.Context.{Context, term, initial}
+use Rattle.jl_defs.specs.Context.{Context, initial}
 use Rattle.jl_defs.specs.Settings.{Settings}
 use Rattle.jl_defs.specs.Keys.{key_of, is_leading, is_kind, is_value}
 use Rattle.jl_defs.specs.LateKeys.{if_so}
@@ -15,8 +15,9 @@ use Rattle.jl_defs.specs.ValueObjects.{is_json_type, type_of_values, first_with,
 use Rattle.jl_laws.specs.Spots.{Spot}
 use Rattle.jl_walk.specs.Phases.{Phase, at_start, in_lead, in_rest, run_until, follow, rest_at, phase_faults, prelude_length}
 use Rattle.jl_walk.specs.Frames.{Expected, no_value, Object, Frame, object as object_frame}
-use Rattle.jl_walk.specs.Steps.{quiet, unless_fault, if_built, then_goes}
+use Rattle.jl_walk.specs.Steps.{Step, quiet, unless_fault, if_built, then_goes}
 use Rattle.jl_walk.specs.Opening.{Entering, fresh, enter_at}
+use Rattle.jl_walk.specs.Stage.{is_built_key}
 use Rattle.jl_walk.specs.Keys.{with_phase, key_of_object, take_key}
 use Rattle.jl_walk.specs.Ending.{close}
 use Rattle.jl_walk.specs.Feeding.{entering_as, feed_members}
@@ -38,6 +39,7 @@ use Rattle.jl_engine.specs.declared.leads.Lead.{Lead}
 use Rattle.jl_engine.specs.declared.leads.LeadPart.{LeadPart}
 use Rattle.jl_engine.specs.declared.leads.LeadSpot.{LeadSpot}
 use Rattle.jl_engine.specs.declared.readers.Reader.{Reader}
+use Rattle.jl_engine.proofs.KeepsLater.{built-no-context}
 use Rattle.jl_engine.proofs.KeepsFrames.{keeps-close, keeps-enter, keeps-key}
 use Rattle.jl_engine.proofs.KeepsLeadAgrees.{AgreesTo, agrees-then, plain_reader, on-frames, OnLeading, on-leading, Settled, settled-so}
 use Rattle.jl_engine.proofs.KeepsLeadRests.{key-rests, close-begins}
@@ -160,12 +162,7 @@ pub last-follows : (s : Settings) (input : Expanded) (n : Text) (ms : Members) �
 last-follows s input n no_member e = rest-follows s input n e
 last-follows s input n (member a m v rest) e = rest-follows s input n e
 
--- `@context` isn't the first
-abbrev pub NoContext : Members → Text → Type 0
-NoContext no_member n = is_context_name n ≡ false
-NoContext (member a m v rest) n = Unit {0}
-
-last-faults : (s : Settings) (input : Expanded) (a : ℕ) (n : Text) (ms : Members) → is_leading (key_of (initial s.base) n) ≡ false → NoContext ms n →
+last-faults : (s : Settings) (input : Expanded) (a : ℕ) (n : Text) (ms : Members) → is_leading (key_of (initial s.base) n) ≡ false → is_context_name n ≡ false →
     phase_faults (last_phase ms) (plain_inside s input) n a ≡ phase_faults in_rest (plain_inside s input) n a
 last-faults s input a n no_member e h =
     ap (λ x. rest_at x (plain_inside s input) n a) (rest-follows s input n e)
@@ -173,24 +170,36 @@ last-faults s input a n no_member e h =
 last-faults s input a n (member b m v rest) e h =
     ap (λ x. if_so (is_context_name n) (fault code.LateContext a ∷ []) ++ rest_at x (plain_inside s input) n a) (rest-follows s input n e)
 
-rest-same : (a : ℕ) (n : Text) (p : Spot) (i : Inside) (o : Object) (k : List Frame) → phase_faults o.phase i n a ≡ phase_faults in_rest i n a → follow o.phase i n ≡ in_rest →
-    take_key a n (object_frame p i o ∷ k) ≡ take_key a n (object_frame p i (with_phase in_rest o) ∷ k)
+rest-same : (s : Settings) (input : Expanded) (a : ℕ) (n : Text) (p : Spot) (o : Object) (k : List Frame) →
+    (let i = plain_inside s input in
+    (is_context_name n ≡ false → phase_faults o.phase i n a ≡ phase_faults in_rest i n a) → follow o.phase i n ≡ in_rest →
+    take_key a n (object_frame p i o ∷ k) ≡ take_key a n (object_frame p i (with_phase in_rest o) ∷ k))
 unfolding take_key
-rest-same a n p i o k e f =
-    let next = λ (ph : Phase). key_of_object (key_of i.final n) (term i.final n) a n p i (with_phase ph o) k in
-    ap (λ fs. unless_fault fs (λ _. next (follow o.phase i n))) e ∙ ap (λ ph. unless_fault (phase_faults in_rest i n a) (λ _. next ph)) f
+rest-same s input a n p o k e f = by (is_built_key (key_of i.final n) None) refl
+  where
+    i : Inside
+    i = plain_inside s input
+
+    next : Phase → Unit {0} → Step
+    next ph _ = key_of_object (key_of i.final n) a n p i (with_phase ph o) k
+
+    by : (b : Bool) → is_built_key (key_of i.final n) None ≡ b →
+        if_built b a (λ _. unless_fault (phase_faults o.phase i n a) (next (follow o.phase i n))) ≡ if_built b a (λ _. unless_fault (phase_faults in_rest i n a) (next in_rest))
+    by false h = refl
+    by true h =
+        ap (λ fs. unless_fault fs (next (follow o.phase i n))) (e (built-no-context s.base n h)) ∙ ap (λ ph. unless_fault (phase_faults in_rest i n a) (next ph)) f
 
 pub rest-key : (s : Settings) (input : Expanded) (a : ℕ) (n : Text) (p : Spot) (k : List Frame) (v all : Bool) (ms : Members) (l : List Frame) (r : Reader) → AllRest k →
-    is_leading (key_of (initial s.base) n) ≡ false → NoContext ms n → AfterMembers s p (plain_inside s input) k (last_phase ms) v all l r →
+    is_leading (key_of (initial s.base) n) ≡ false → AfterMembers s p (plain_inside s input) k (last_phase ms) v all l r →
     AgreesTo (Settled s) (take_key a n l) (at_step (initial s.base) false (events.Key a n) r)
-rest-key s input a n p k v all ms l r rests e nc h =
+rest-key s input a n p k v all ms l r rests e h =
     let c = initial s.base in
     let i = plain_inside s input in
     let x = h.0 in
     let o = x.said in
     let top = object_frame p i (with_phase in_rest o) ∷ k in
     let keeps : KeepsFrames s top x.stack = (x.keeps.0, phase-in s p i o k in_rest x.stack.node x.stack.opens x.keeps.1) in
-    let same = rest-same a n p i o k (ap (λ y. phase_faults y i n a) x.phase ∙ last-faults s input a n ms e nc) (ap (λ y. follow y i n) x.phase ∙ last-follows s input n ms e) in
+    let same = rest-same s input a n p o k (λ no. ap (λ y. phase_faults y i n a) x.phase ∙ last-faults s input a n ms e no) (ap (λ y. follow y i n) x.phase ∙ last-follows s input n ms e) in
     step-on (Settled s) (take_key a n) (at_step c false (events.Key a n)) l (object_frame p i o ∷ k) r (plain_reader x.stack) x.frames x.reader
     (subst (λ y. AgreesTo (Settled s) y (at_step c false (events.Key a n) (plain_reader x.stack))) (sym same)
     (settled-so s (take_key a n top) (at_step c false (events.Key a n) (plain_reader x.stack)) (key-rests a n top (refl, rests))

@@ -52,7 +52,7 @@ use Rattle.jl_engine.proofs.KeepsLeadAgrees.{AgreesTo, agrees-then, plain_reader
 use Rattle.jl_engine.proofs.KeepsLeadRests.{RestsIn, array-rests, other-rests, scalar-rests, key-rests, close-rests}
 use Rattle.jl_engine.proofs.KeepsLeadTypes.{nothing-last, key-last, plain-candidates, plain-decided, input-shown}
 use Rattle.jl_engine.proofs.KeepsLeadTells.{AfterMembers, last_phase}
-use Rattle.jl_engine.proofs.KeepsLeadSettles.{settling, NoContext, rest-follows, rest-key, rest-close}
+use Rattle.jl_engine.proofs.KeepsLeadSettles.{settling, rest-follows, rest-key, rest-close}
 use Rattle.jl_engine.proofs.KeepsLeadHeld.{length-all}
 
 -- ---- where no object is held
@@ -165,9 +165,9 @@ types-so s p b n e = ap (λ cs. list_any (types_in n) cs) (lead-candidates s p b
 
 -- a key that ends the prelude
 key-ends : (s : Settings) (p : Spot) (b : ℕ) (held : Members) (k : List Frame) (es : List Event) (m : Lead) (st : StackState) (a : ℕ) (n : Text) → p.context ≡ initial s.base →
-    KeepsLead s (plain_lead p b held k) es m st → is_leading (key_of (initial s.base) n) ≡ false → NoContext held n →
+    KeepsLead s (plain_lead p b held k) es m st → is_leading (key_of (initial s.base) n) ≡ false →
     Agrees s (ending_key s (plain_lead p b held k) a n) (settles_then (initial s.base) (events.Key a n) (lead_by b es parts.Prelude spots.Between m) (plain_reader st))
-key-ends s p b held k es m st a n e h w nc =
+key-ends s p b held k es m st a n e h w =
     let c = initial s.base in
     let l = plain_lead p b held k in
     let more = look_at_key n ∷ [] in
@@ -181,7 +181,7 @@ key-ends s p b held k es m st a n e h w nc =
     ]) t) (sym (rest-follows s input n w))
     (settles-so s p b input k st held es m parts.Prelude spots.Between (members_length held) (take_key a n) (events.Key a n) h.stands h.held h.keys h.shows
     (input-shown s.base (stand_of p.role.around) held more (key-last c n)) (length-all c held h.leads)
-    (λ y r x. rest-key s input a n p k (is_some (first_with is_value c held)) (all_lead c held) held y r h.stands.rests w nc x)))
+    (λ y r x. rest-key s input a n p k (is_some (first_with is_value c held)) (all_lead c held) held y r h.stands.rests w x)))
 
 -- its end
 lead-closes : (s : Settings) (p : Spot) (b : ℕ) (held : Members) (k : List Frame) (es : List Event) (m : Lead) (st : StackState) → p.context ≡ initial s.base →
@@ -208,10 +208,6 @@ nothing-empty c (member a n (array b xs) rest) es h = by (is_kind (key_of c n)) 
     by true g = ap is_empty (sym g.1.1.0)
     by false g = ap is_empty (sym g.1)
 nothing-empty c (member a n (object b ms) rest) es h = ap is_empty (sym h.1)
-
-no-context : (held : Members) (n : Text) → (nothing_held no_member held && is_context_name n) ≡ false → NoContext held n
-no-context no_member n e = e
-no-context (member a m v rest) n e = tt
 
 goes-prelude : (q : Key) → goes_on parts.Prelude (class_of q) ≡ is_leading q
 goes-prelude id = refl
@@ -270,7 +266,7 @@ lead-key s p b held k es m st a n e h =
         ]) (by_admits (key_admits x y a (class_of q) m1) c (events.Key a n) m1 r1)
     by true y f g = refl
     by false true f g = (reader_by st (lead_by b (es ++ events.Key a n ∷ []) parts.Prelude (spots.After (class_of q)) m), (refl, between (st, (es, (m, (refl, (h, g)))))))
-    by false false f g = key-ends s p b held k es m st a n e h g (no-context held n f)
+    by false false f g = key-ends s p b held k es m st a n e h g
 
 pub lead-steps : (s : Settings) (e : Event) (p : Spot) (b : ℕ) (held : Members) (k : List Frame) (es : List Event) (m : Lead) (st : StackState) →
     KeepsLead s (plain_lead p b held k) es m st → FitsMembers (walked e) →

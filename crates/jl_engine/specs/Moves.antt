@@ -11,7 +11,7 @@ use Rattle.jl_value.specs.declared.valued.Valued.TheVariants as valued
 use Rattle.jl_defs.specs.Texts.{Text}
 use Rattle.jl_defs.specs.Context.{Context}
 use Rattle.jl_defs.specs.IriExpansion.{expand_iri}
-use Rattle.jl_defs.specs.Keys.{Key, its_context, id, kind, value, key_of}
+use Rattle.jl_defs.specs.Keys.{Key, id, kind, value, key_of}
 use Rattle.jl_defs.specs.ObjectContexts.{fault}
 use Rattle.jl_defs.specs.ValueObjects.{expand_type}
 use Rattle.jl_defs.specs.Values as values
@@ -67,25 +67,19 @@ opens_array at k = frames.enter (plain_frame role.Set at) k
 abbrev pub opens_other : ℕ → StackState → Step
 opens_other at k = frames.enter (plain_frame role.Object at) k
 
--- a key of the rest of an object for its context, a type, its identifier or a value comes too late
+-- a key of the rest of an object for a type, its identifier or a value comes too late
 abbrev pub late_faults : Key → ℕ → List Fault
-late_faults its_context at = fault code.LateContext at ∷ []
 late_faults kind at = fault code.LateType at ∷ []
 late_faults id at = fault code.LateIdentifier at ∷ []
 late_faults value at = fault code.LateValue at ∷ []
 late_faults q at = []
 
-abbrev pub is_its_context : Key → Bool
-is_its_context its_context = true
-is_its_context q = false
-
--- the same by the class of the key, and whether it is `@context`
-abbrev pub late_by : Class → Bool → ℕ → List Fault
-late_by class.Kind its at = fault code.LateType at ∷ []
-late_by class.Identifier its at = fault code.LateIdentifier at ∷ []
-late_by class.Value its at = fault code.LateValue at ∷ []
-late_by k true at = fault code.LateContext at ∷ []
-late_by k false at = []
+-- the same by the class of the key
+abbrev pub late_by : Class → ℕ → List Fault
+late_by class.Kind at = fault code.LateType at ∷ []
+late_by class.Identifier at = fault code.LateIdentifier at ∷ []
+late_by class.Value at = fault code.LateValue at ∷ []
+late_by k at = []
 
 abbrev pub unless_leading : Bool → List Fault → List Fault
 unless_leading true fs = []

@@ -116,36 +116,20 @@ fn late_fault(leading: bool, expanded: &Expanded, at: u64) -> Option<Fault>
     if leading {
         return None;
     }
-    late_fault_of(Class::of(expanded), expanded, at)
+    late_fault_of(Class::of(expanded), at)
 }
 
-/// The same, with the class of the key.
-fn late_fault_of(class: Class, expanded: &Expanded, at: u64) -> Option<Fault>
-    ensures { listed result
-        ≡ spec.late_by class (spec.is_its_context (key_by expanded.now)) at }
+/// The same, by the class of the key.
+fn late_fault_of(class: Class, at: u64) -> Option<Fault>
+    ensures { listed result ≡ spec.late_by class at }
 {
     let code = match class {
         Class::Kind => Code::LateType,
         Class::Identifier => Code::LateIdentifier,
         Class::Value => Code::LateValue,
-        Class::Aside | Class::Other => {
-            if !is_context(expanded) {
-                return None;
-            }
-            Code::LateContext
-        }
+        Class::Aside | Class::Other => return None,
     };
     Some(Fault { code, at })
-}
-
-/// Whether a key is that of a context.
-fn is_context(expanded: &Expanded) -> bool
-    ensures { result ≡ spec.is_its_context (key_by expanded.now) }
-{
-    match expanded {
-        Expanded::Keyword(text) => text.bytes() == b"@context".as_slice(),
-        _ => false,
-    }
 }
 
 /// A container without a subject.

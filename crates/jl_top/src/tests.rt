@@ -626,7 +626,7 @@ fn refuses_documents(rt: HostRuntime) -> Result<(), Fail> {
             "a context after another member",
             br#"{"http://a/p":"x","@context":{}}"#,
             "_:jlb0 <http://a/p> \"x\" .\n",
-            "jl: late context at 18\n",
+            "jl: not yet at 18\n",
         ),
         refused(
             "an array as an identifier, with a value inside that is dropped with it",

@@ -23,7 +23,7 @@ use Rattle.jl_laws.proofs.Counting.{tally-append}
 use Rattle.jl_walk.specs.Phases.{follow, phase_faults}
 use Rattle.jl_walk.specs.Stage.{is_built_key, is_built_term}
 use Rattle.jl_walk.specs.Frames.{Object, Frame, object as object_frame, around_by, property_spot, spot_in}
-use Rattle.jl_walk.specs.Steps.{Step, quiet, unless_fault, if_built}
+use Rattle.jl_walk.specs.Steps.{Step, unless_fault, if_built}
 use Rattle.jl_walk.specs.Keys.{with_key, seen_by, with_phase, key_of_object, take_key}
 use Rattle.jl_walk.specs.States.{State, at, Go, before, from}
 use Rattle.jl_walk.specs.Running.{step, run}
@@ -122,7 +122,9 @@ pub key-brings : (s : Settings) (a : ℕ) (n : Text) (next : Open) (p : Spot) (i
     Brings (next_key s a n (open_events next) (object_frame p i o ∷ k)) (due.open_due (due_spot p) i own_member node n next (λ q. value_due s q next) mapped nested reversed)
 unfolding run step take_key
 key-brings s a n next p i o k node mapped nested reversed ih built same_subject same_scope =
-    brings-same _ _ _ (then-settle (take_key a n (object_frame p i o ∷ k)) (run s (open_events next)))
+    brings-same _ _ _
+    (then-settle (take_key a n (object_frame p i o ∷ k)) (run s (open_events next))
+    ∙ ap (λ x. from (if_built x a (λ _. unless_fault (phase_faults o.phase i n a) (λ _. key_of_object (key_of i.final n) a n p i m k))) g) built)
     (brings-unless (phase_faults o.phase i n a) _ g _ (by (key_of i.final n) built))
   where
     g : List Frame → Go
@@ -134,10 +136,8 @@ key-brings s a n next p i o k node mapped nested reversed ih built same_subject 
     m : Object
     m = with_phase (follow o.phase i n) o
 
-    goes-on : (q : Key) (quads : List Parts) → is_built_key q t ≡ true → Brings (g (object_frame p i (with_key q a n m) ∷ k)) quads → Brings (from (key_of_object q t a n p i m k) g) quads
-    goes-on q quads c b =
-        brings-same _ _ _ (ap (λ x. from (if_built x a (λ _. unless_fault (key_faults q p.under (seen_by m) a) (λ _. quiet (object_frame p i (with_key q a n m) ∷ k)))) g) c)
-        (brings-unless (key_faults q p.under (seen_by m) a) _ g quads (brings-quiet _ quads b))
+    goes-on : (q : Key) (quads : List Parts) → Brings (g (object_frame p i (with_key q a n m) ∷ k)) quads → Brings (from (key_of_object q a n p i m k) g) quads
+    goes-on q quads b = brings-unless (key_faults q p.under (seen_by m) a) _ g quads (brings-quiet _ quads b)
 
     value-brings : (iri : Text) → is_built_term t ≡ true →
         Brings (g (object_frame p i (with_key (property iri) a n m) ∷ k))
@@ -150,13 +150,13 @@ key-brings s a n next p i o k node mapped nested reversed ih built same_subject 
         (ih (object_frame p i o') k (property_spot i o' n iri) refl (built-lists t c, around-plain (is_plain_graph t)) tt))
 
     by : (q : Key) → is_built_key q t ≡ true →
-        Brings (from (key_of_object q t a n p i m k) g)
+        Brings (from (key_of_object q a n p i m k) g)
         (due.if_so (is_admitted own_member q) (λ _. due.key_due q (due_spot p) i own_member node n next (λ x. value_due s x next) mapped nested reversed))
-    by (property iri) c = goes-on (property iri) _ c (value-brings iri c)
+    by (property iri) c = goes-on (property iri) _ (value-brings iri c)
     by graph c = absurd cc
     by included c = absurd cc
     by list c = absurd cc
     by set c = absurd cc
     by reverse c = absurd cc
     by nest c = absurd cc
-    by q c = goes-on q [] c (brings-none (g (object_frame p i (with_key q a n m) ∷ k)))
+    by q c = goes-on q [] (brings-none (g (object_frame p i (with_key q a n m) ∷ k)))

@@ -9,9 +9,8 @@ use Rattle.jl_defs.specs.Texts.{Text}
 use Rattle.jl_defs.specs.Context.{TermDef, Context, term}
 use Rattle.jl_defs.specs.Process.{Library}
 use Rattle.jl_defs.specs.Settings.{Settings, Under, elsewhere}
-use Rattle.jl_defs.specs.Keys.{Key, its_context, id, kind, value, language, direction, index, other, dropped as dropped_key, property, key_of, is_value}
+use Rattle.jl_defs.specs.Keys.{Key, id, kind, value, language, direction, index, other, dropped as dropped_key, property, key_of, is_value}
 use Rattle.jl_defs.specs.ObjectContexts.{fault, Inside, Own, first_context, decide}
-use Rattle.jl_defs.specs.MemberFaults.{key_faults}
 use Rattle.jl_model.specs.declared.codes.Code.TheVariants as code
 use Rattle.jl_defs.specs.ValueObjects.{first_with}
 use Rattle.jl_defs.specs.Kept.{own_member}
@@ -29,7 +28,7 @@ use Rattle.jl_walk.specs.Stage.{unless_own, is_built_key, members_forms}
 use Rattle.jl_walk.specs.Frames.{Object, Frame, object as object_frame, spot_in}
 use Rattle.jl_walk.specs.Steps.{quiet, unless_fault, if_built}
 use Rattle.jl_walk.specs.Opening.{scope_of, Entering, fresh, enter_at}
-use Rattle.jl_walk.specs.Keys.{with_key, seen_by, with_phase, take_key}
+use Rattle.jl_walk.specs.Keys.{key_of_object, with_phase, take_key}
 use Rattle.jl_walk.specs.Feeding.{entering_as, entering, decided, feed_members}
 use Rattle.jl_walk.specs.Events.{Event, opens_object, a_key, tree_events, members_events}
 use Rattle.jl_walk.specs.States.{at, leading, Go, before, then_go, from}
@@ -247,7 +246,6 @@ entry-plain value t under e = (tt, tt)
 entry-plain language t under e = (tt, tt)
 entry-plain direction t under e = (tt, tt)
 entry-plain index t under e = (tt, tt)
-entry-plain its_context t under e = tt
 entry-plain other t under e = tt
 entry-plain dropped_key t under e = tt
 entry-plain k t under e = absurd cc
@@ -263,18 +261,11 @@ brings-stopped front g quads (x, e) = brings-same _ _ quads (ap (before front) e
 key-stops : (s : Settings) (a : ℕ) (n : Text) (es : List Event) (p : Spot) (i : Inside) (o : Object) (k : List Frame) →
     is_built_key (key_of i.final n) (term i.final n) ≡ false → Stops (next_key s a n es (object_frame p i o ∷ k))
 unfolding run step take_key
-key-stops s a n es p i o k e =
-    let r = by (phase_faults o.phase i n a) (is_built_key (key_of i.final n) (term i.final n)) e in
-    (r.0, then-settle (take_key a n (object_frame p i o ∷ k)) (run s es) ∙ r.1)
-  where
-    m : Object
-    m = with_phase (follow o.phase i n) o
-
-    by : (fs : List Fault) (x : Bool) → x ≡ false →
-        Stops (from (unless_fault fs (λ _. if_built x a (λ _. unless_fault (key_faults (key_of i.final n) p.under (seen_by m) a) (λ _. quiet (object_frame p i (with_key (key_of i.final n) a n m) ∷ k))))) (λ l. run s es (at l)))
-    by (y ∷ fs) x e = (y, refl)
-    by [] false e = (fault code.NotYet a, refl)
-    by [] true e = absurd cc
+key-stops s a n es p i o k e = (
+  fault code.NotYet a,
+  then-settle (take_key a n (object_frame p i o ∷ k)) (run s es)
+      ∙ ap (λ x. from (if_built x a (λ _. unless_fault (phase_faults o.phase i n a) (λ _. key_of_object (key_of i.final n) a n p i (with_phase (follow o.phase i n) o) k))) (λ l. run s es (at l))) e,
+)
 
 pub member-brings : (base : Option Text) (library : Library) (b : ℕ) (ms : Members) (ends : List ℕ) (a : ℕ) (n : Text) (next : Open) → BeginAs (first_byte next) (open_events next) →
     (let s = settings_of Streaming base library in

@@ -1,5 +1,5 @@
 -- A key with its value: one lemma for each kind of key.
-use Rattle.std.proofs.Common.{ℕ, ◌≡◌, inl, inr, refl, sym, ◌∙◌, ap, Bool, true, false, List, [], ◌∷◌, ◌++◌, Option}
+use Rattle.std.proofs.Common.{ℕ, ◌≡◌, inl, refl, sym, ◌∙◌, ap, Bool, true, false, List, [], ◌∷◌, ◌++◌, Option}
 use Rattle.std.proofs.lemmas.List.{append-nil}
 use Rattle.jl_model.specs.JsonTree.{Tree, scalar, array, object}
 use Rattle.jl_model.specs.Parts.{Parts}
@@ -8,7 +8,7 @@ use Rattle.jl_model.specs.declared.faults.Fault.{Fault}
 use Rattle.jl_defs.specs.Texts.{Text}
 use Rattle.jl_defs.specs.Context.{TermDef}
 use Rattle.jl_defs.specs.Settings.{Settings, Under}
-use Rattle.jl_defs.specs.Keys.{Key, its_context, id, kind, value, language, direction, index, graph, included, list, set, reverse, nest, other, dropped as dropped_key, property, is_value}
+use Rattle.jl_defs.specs.Keys.{Key, id, kind, value, language, direction, index, other, dropped as dropped_key, property, is_value}
 use Rattle.jl_defs.specs.ObjectContexts.{Inside}
 use Rattle.jl_defs.specs.ValueObjects.{not_one}
 use Rattle.jl_defs.specs.MemberFaults.{key_faults, shape_faults}
@@ -17,10 +17,10 @@ use Rattle.jl_defs.specs.Faults.{inside_by}
 use Rattle.jl_laws.specs.Spots.{Spot}
 use Rattle.jl_laws.specs.Says.{by_key, types_say}
 use Rattle.jl_walk.specs.Frames.{Expected, no_value, property_value, keyword_value, dropped_value, Object, Frame, object as object_frame, types, after_value}
-use Rattle.jl_walk.specs.Steps.{Step, quiet, after_quads, then_goes, unless_fault, if_built}
+use Rattle.jl_walk.specs.Steps.{Step, quiet, after_quads, then_goes, unless_fault}
 use Rattle.jl_walk.specs.Scalars.{with_part, take_scalar}
 use Rattle.jl_walk.specs.Keys.{with_key, key_of_object, seen_by}
-use Rattle.jl_walk.specs.Stage.{is_built_key, key_forms}
+use Rattle.jl_walk.specs.Stage.{is_built_key, values_of}
 use Rattle.jl_walk.specs.Opening.{open_array, enter}
 use Rattle.jl_walk.specs.Ending.{close}
 use Rattle.jl_walk.specs.Feeding.{feed, feed_items}
@@ -111,8 +111,8 @@ abbrev pub own_faults : Key → Under → Object → ℕ → Bool → Tree → L
 own_faults q under o a json v inner = key_faults q under (seen_by o) a ++ (shape_faults q json a v ++ inner)
 
 -- a key that is decided, and its value
-abbrev pub decided_key : Settings → Key → Option TermDef → ℕ → Text → Tree → Spot → Inside → Object → List Frame → Step
-decided_key s q t a n v p i o k = then_goes (key_of_object q t a n p i o k) (feed s v)
+abbrev pub decided_key : Settings → Key → ℕ → Text → Tree → Spot → Inside → Object → List Frame → Step
+decided_key s q a n v p i o k = then_goes (key_of_object q a n p i o k) (feed s v)
 
 -- a keyword: its key may collide, and then its value is judged
 keyword-runs : (s : Settings) (q : Key) (a : ℕ) (n : Text) (v : Tree) (p : Spot) (i : Inside) (o m : Object) (k : List Frame) (fs : List Fault) (quads : List Parts) (to : Object) →
@@ -134,37 +134,26 @@ PropertyRuns s (property iri) t a n v p i o k fs ps quads g =
     Runs fs ps (feed s v (object_frame p i (with_key (property iri) a n o) ∷ k)) quads (object_frame p i (after_value g (with_key (property iri) a n o)) ∷ k)
 PropertyRuns s q t a n v p i o k fs ps quads g = Unit {0}
 
+-- a key of a form that is built
 pub key-runs : (s : Settings) (q : Key) (t : Option TermDef) (a : ℕ) (n : Text) (v : Tree) (p : Spot) (i : Inside) (o : Object) (k : List Frame)
     (json ignored : Bool) (numbers : Unit {0} → List Fault) (under : Under → List Fault) (fi : Unit {0} → List Fault) (fp : Unit {0} → List Fault) (fn fr fl ft : Unit {0} → List Fault)
-    (ps : Unit {0} → List ℕ) (qp : Text → List Parts) (qh qi qn qr : Unit {0} → List Parts) (g : Bool) →
+    (ps : Unit {0} → List ℕ) (qp : Text → List Parts) (qh qi qn qr : Unit {0} → List Parts) (g : Bool) → is_built_key q t ≡ true →
     (is_value q ≡ true → (json ≡ false) × (numbers tt ≡ [])) →
     ((iri : Text) → q ≡ property iri → PropertyRuns s q t a n v p i o k (fp tt) (ps tt) (qp iri) g) →
-    Runs (own_faults q p.under o a json v (inside_by q ignored numbers under fi fp fn fr fl ft)) (key_forms q t a ps) (decided_key s q t a n v p i o k)
+    Runs (own_faults q p.under o a json v (inside_by q ignored numbers under fi fp fn fr fl ft)) (values_of q ps) (decided_key s q a n v p i o k)
     (by_key q qp (λ _. types_say o.subject o.scope i.base (type_strings v)) qh qi qn qr) (object_frame p i (after_key g q i a n v o) ∷ k)
-key-runs s (property iri) t a n v p i o k json ignored numbers under fi fp fn fr fl ft ps qp qh qi qn qr g j h =
-    by (is_built_key (property iri) t) refl
-  where
-    by : (b : Bool) → is_built_key (property iri) t ≡ b →
-        Runs (fp tt) (elim b [ true ↦ ps tt | false ↦ a ∷ [] ]) (then_goes (if_built b a (λ _. quiet (object_frame p i (with_key (property iri) a n o) ∷ k))) (feed s v)) (qp iri)
-        (object_frame p i (after_value g (with_key (property iri) a n o)) ∷ k)
-    by false e = stops _ (inr (refl, inl refl)) refl
-    by true e = then-runs [] _ [] _ (quiet (object_frame p i (with_key (property iri) a n o) ∷ k)) (feed s v) [] _ _ _ (runs-quiet _) (h iri refl e)
-key-runs s id t a n v p i o k json ignored numbers under fi fp fn fr fl ft ps qp qh qi qn qr g j h = keyword-runs s id a n v p i o _ k _ _ _ (id-value s a v p i (with_key id a n o) k)
-key-runs s kind t a n v p i o k json ignored numbers under fi fp fn fr fl ft ps qp qh qi qn qr g j h = keyword-runs s kind a n v p i o _ k _ _ _ (kind-value s a v p i (with_key kind a n o) k)
-key-runs s language t a n v p i o k json ignored numbers under fi fp fn fr fl ft ps qp qh qi qn qr g j h = keyword-runs s language a n v p i o _ k _ _ _ (language-value s a v p i (with_key language a n o) k)
-key-runs s direction t a n v p i o k json ignored numbers under fi fp fn fr fl ft ps qp qh qi qn qr g j h = keyword-runs s direction a n v p i o _ k _ _ _ (direction-value s a v p i (with_key direction a n o) k)
-key-runs s index t a n v p i o k json ignored numbers under fi fp fn fr fl ft ps qp qh qi qn qr g j h = keyword-runs s index a n v p i o _ k _ _ _ (index-value s a v p i (with_key index a n o) k)
-key-runs s value t a n v p i o k json ignored numbers under fi fp fn fr fl ft ps qp qh qi qn qr g j h =
+key-runs s (property iri) t a n v p i o k json ignored numbers under fi fp fn fr fl ft ps qp qh qi qn qr g b j h =
+    then-runs [] _ [] _ (quiet (object_frame p i (with_key (property iri) a n o) ∷ k)) (feed s v) [] _ _ _ (runs-quiet _) (h iri refl b)
+key-runs s id t a n v p i o k json ignored numbers under fi fp fn fr fl ft ps qp qh qi qn qr g b j h = keyword-runs s id a n v p i o _ k _ _ _ (id-value s a v p i (with_key id a n o) k)
+key-runs s kind t a n v p i o k json ignored numbers under fi fp fn fr fl ft ps qp qh qi qn qr g b j h = keyword-runs s kind a n v p i o _ k _ _ _ (kind-value s a v p i (with_key kind a n o) k)
+key-runs s language t a n v p i o k json ignored numbers under fi fp fn fr fl ft ps qp qh qi qn qr g b j h = keyword-runs s language a n v p i o _ k _ _ _ (language-value s a v p i (with_key language a n o) k)
+key-runs s direction t a n v p i o k json ignored numbers under fi fp fn fr fl ft ps qp qh qi qn qr g b j h = keyword-runs s direction a n v p i o _ k _ _ _ (direction-value s a v p i (with_key direction a n o) k)
+key-runs s index t a n v p i o k json ignored numbers under fi fp fn fr fl ft ps qp qh qi qn qr g b j h = keyword-runs s index a n v p i o _ k _ _ _ (index-value s a v p i (with_key index a n o) k)
+key-runs s value t a n v p i o k json ignored numbers under fi fp fn fr fl ft ps qp qh qi qn qr g b j h =
     let m = with_key value a n o in
     runs-by _ _ [] [] _ _ _ _ _ _
     (ap (λ x. key_faults value p.under (seen_by o) a ++ (shape_faults value x a v ++ [])) (sym (j refl).0) ∙ ap (λ x. key_faults value p.under (seen_by o) a ++ (shape_faults value json a v ++ x)) (sym (j refl).1))
     refl refl refl refl (keyword-runs s value a n v p i o m k _ _ _ (value-value s a v p i m k))
-key-runs s graph t a n v p i o k json ignored numbers under fi fp fn fr fl ft ps qp qh qi qn qr g j h = stops _ (inr (refl, inl refl)) refl
-key-runs s included t a n v p i o k json ignored numbers under fi fp fn fr fl ft ps qp qh qi qn qr g j h = stops _ (inr (refl, inl refl)) refl
-key-runs s list t a n v p i o k json ignored numbers under fi fp fn fr fl ft ps qp qh qi qn qr g j h = stops _ (inr (refl, inl refl)) refl
-key-runs s set t a n v p i o k json ignored numbers under fi fp fn fr fl ft ps qp qh qi qn qr g j h = stops _ (inr (refl, inl refl)) refl
-key-runs s reverse t a n v p i o k json ignored numbers under fi fp fn fr fl ft ps qp qh qi qn qr g j h = stops _ (inr (refl, inl refl)) refl
-key-runs s nest t a n v p i o k json ignored numbers under fi fp fn fr fl ft ps qp qh qi qn qr g j h = stops _ (inr (refl, inl refl)) refl
-key-runs s its_context t a n v p i o k json ignored numbers under fi fp fn fr fl ft ps qp qh qi qn qr g j h = dropped-runs s v p i o k
-key-runs s other t a n v p i o k json ignored numbers under fi fp fn fr fl ft ps qp qh qi qn qr g j h = dropped-runs s v p i o k
-key-runs s dropped_key t a n v p i o k json ignored numbers under fi fp fn fr fl ft ps qp qh qi qn qr g j h = dropped-runs s v p i o k
+key-runs s other t a n v p i o k json ignored numbers under fi fp fn fr fl ft ps qp qh qi qn qr g b j h = dropped-runs s v p i o k
+key-runs s dropped_key t a n v p i o k json ignored numbers under fi fp fn fr fl ft ps qp qh qi qn qr g b j h = dropped-runs s v p i o k
+key-runs s q t a n v p i o k json ignored numbers under fi fp fn fr fl ft ps qp qh qi qn qr g b j h = absurd cc

@@ -21,14 +21,14 @@ use Rattle.jl_defs.specs.Expansion.{is_plain_graph}
 use Rattle.jl_laws.specs.Spots.{Spot, spot, ordinary, linked}
 use Rattle.jl_laws.specs.Says.{members_say, walk, is_given, property_head}
 use Rattle.jl_walk.specs.Frames.{Expected, no_value, property_value, keyword_value, dropped_value, Object, Frame, object as object_frame, around_by, property_spot, spot_in, after_value}
-use Rattle.jl_walk.specs.Steps.{Step, after_quads, then_goes}
+use Rattle.jl_walk.specs.Steps.{Step, after_quads, then_goes, unless_fault}
 use Rattle.jl_walk.specs.Stage.{is_built_key, is_built_term, forms, members_forms}
 use Rattle.jl_walk.specs.Scalars.{with_part}
 use Rattle.jl_walk.specs.Keys.{with_key, with_phase, key_of_object, take_key}
 use Rattle.jl_walk.specs.Feeding.{feed, feed_members}
 use Rattle.jl_walk.specs.Phases.{phased, lone_at, Phase, any_time, at_start, in_lead, in_run, in_rest, run_until, follow, past, is_rest, context_at, rest_at, phase_faults}
 use Rattle.jl_walk.specs.Laws.{Runs, ValueRuns}
-use Rattle.jl_walk.proofs.Runs.{right-nil, then-runs-if, runs-by, runs-quiet}
+use Rattle.jl_walk.proofs.Runs.{right-nil, then-runs-if, runs-by, runs-quiet, built-first-runs}
 use Rattle.jl_walk.proofs.SameFaults.{regroup, runs-same, first-runs}
 use Rattle.jl_walk.proofs.Naming.{not-late}
 use Rattle.jl_walk.proofs.Forms.{built-form, built-lists, built-faults, built-said}
@@ -208,15 +208,9 @@ entries-by value t g i a n v o under nested reverses e = sym (keyword-entries g 
 entries-by language t g i a n v o under nested reverses e = sym (keyword-entries g language a i v (with_key language a n o))
 entries-by direction t g i a n v o under nested reverses e = sym (keyword-entries g direction a i v (with_key direction a n o))
 entries-by index t g i a n v o under nested reverses e = sym (keyword-entries g index a i v (with_key index a n o))
-entries-by its_context t g i a n v o under nested reverses e = append-nil o.entries
 entries-by other t g i a n v o under nested reverses e = append-nil o.entries
 entries-by dropped_key t g i a n v o under nested reverses e = append-nil o.entries
-entries-by graph t g i a n v o under nested reverses e = absurd cc
-entries-by included t g i a n v o under nested reverses e = absurd cc
-entries-by list t g i a n v o under nested reverses e = absurd cc
-entries-by set t g i a n v o under nested reverses e = absurd cc
-entries-by reverse t g i a n v o under nested reverses e = absurd cc
-entries-by nest t g i a n v o under nested reverses e = absurd cc
+entries-by q t g i a n v o under nested reverses e = absurd cc
 
 -- a run whose places are none where it goes
 pub both : (b : Bool) (a : ℕ) (ps : List ℕ) → ◌≡◌ {A = List ℕ} (elim b [ true ↦ ps | false ↦ a ∷ [] ]) [] → b ≡ true
@@ -302,22 +296,24 @@ members-step s a n v rest vr mr p i o k stand all seen j =
     let own = own_faults q p.under x a json v (inside_by q (drops p.under) numbers under fi fp fn fr fl ft) in
     let mf = members_faults s i pl (see s i own_member p.under sn a n v) rest in
     let pr = phased i (past ph i n v) rest in
+    let built_next : Unit {0} → Step = λ _. unless_fault late (λ _. key_of_object q a n p i x k) in
     runs-by ((own ++ mf) ++ (late ++ pr)) _ _ _ _ _ _ _ _ _ refl refl refl refl refl
+    (built-first-runs (is_built_key q t) a _ _ (members_forms s i rest) built_next _ _ _ (λ built.
     (runs-same (late ++ (own ++ (mf ++ pr))) _ _ _ _ _ (regroup late own mf pr)
-    (first-runs late (own ++ (mf ++ pr)) _ (λ _. key_of_object q t a n p i x k) (λ l. then_goes (feed s v l) (feed_members s rest)) _ _ (λ none.
-    runs-by (own ++ (mf ++ pr)) _ _ _ _ _ _ _ _ _ refl refl (sym (then-assoc (key_of_object q t a n p i x k) (feed s v) (feed_members s rest))) refl refl
+    (first-runs late (own ++ (mf ++ pr)) _ (λ _. key_of_object q a n p i x k) (λ l. then_goes (feed s v l) (feed_members s rest)) _ _ (λ none.
+    runs-by (own ++ (mf ++ pr)) _ _ _ _ _ _ _ _ _ refl refl (sym (then-assoc (key_of_object q a n p i x k) (feed s v) (feed_members s rest))) refl refl
     (then-runs-if own (mf ++ pr) _ _ _ (feed_members s rest) _ _ (object_frame p i m ∷ k) _
     (runs-by own own _ _ _ _ _ _ _ _ refl refl refl refl (ap (λ z. object_frame p i z ∷ k) (after-phase g q i a n v ph o))
-    (key-runs s q t a n v p i x k json (drops p.under) numbers under fi fp fn fr fl ft _ _ _ _ _ _ g
+    (key-runs s q t a n v p i x k json (drops p.under) numbers under fi fp fn fr fl ft _ _ _ _ _ _ g built
     (λ h. let b = j.0 h (not-rest o.phase i n a none h) in (and-false (is_json i.input) _ b, if-none (is_json i.input) _ b))
     (λ iri e. property-runs s q t iri a n v p i x k _ _ e refl vr (λ b. built-faults t v _ _ _ _ _ b) (λ b. built-said t v _ _ _ (is_list_object s i.final (property_of n) elsewhere v) (is_given s i.final (property_of n) v)
     (property_head own_member t iri o.subject o.scope) (λ hanging h. walk s (spot i.final (property_of n) ordinary hanging h) v)
     (λ around. (walk s (spot i.final (property_of n) around linked (property_head own_member t iri o.subject o.scope)) v).0) b))))
-    (λ fine built.
+    (λ fine none_inside.
     let same = past-same ph i n v (no-end q p.under x a json v _ (λ h. and-false (is_json i.input) _ (j.0 h (not-rest o.phase i n a none h))) fine) in
     runs-by _ (mf ++ pr) _ _ _ _ _ _ _ _
     (ap (λ z. members_faults s i pl (record { entries = z; kinds = see_kind (is_kind q) v seen }) rest ++ phased i ph rest)
-    (sym (entries-by q t g i a n v o p.under _ _ (both (is_built_key q t) a _ built)))
+    (sym (entries-by q t g i a n v o p.under _ _ built))
     ∙ ap (λ z. mf ++ phased i z rest) (sym same))
     refl refl (ap (λ x. members_say s i own_member x m.scope rest) (same-node s i a n v o).0 ∙ ap (λ x. members_say s i own_member o.subject x rest) (same-node s i a n v o).1) refl
-    (mr p i m k stand all (see_kind (is_kind q) v seen) (subst (λ z. NoJson i z rest) same j.1)))))))
+    (mr p i m k stand all (see_kind (is_kind q) v seen) (subst (λ z. NoJson i z rest) same j.1)))))))))

@@ -170,8 +170,8 @@ late_row : refuses (object 0 (member 1 (codes "http://a/p") (scalar 14 (Str (cod
 unfolding refuses
 late_row = refl
 
--- {"@id":"http://a/s","http://a/p":"x","@context":{}}: so does a context
-late_context_row : refuses (object 0 (member 1 (codes "@id") (scalar 7 (Str (codes "http://a/s"))) (member 20 (codes "http://a/p") (scalar 33 (Str (codes "x"))) (member 37 (codes "@context") (object 48 no_member) no_member)))) code.LateContext 37 ≡ true
+-- {"@id":"http://a/s","http://a/p":"x","@context":{}}: a late context isn't built, which is told first
+late_context_row : refuses (object 0 (member 1 (codes "@id") (scalar 7 (Str (codes "http://a/s"))) (member 20 (codes "http://a/p") (scalar 33 (Str (codes "x"))) (member 37 (codes "@context") (object 48 no_member) no_member)))) code.NotYet 37 ≡ true
 unfolding refuses
 late_context_row = refl
 

@@ -66,11 +66,11 @@ fault-runs (f ∷ fs) gs ps next q k n = stops f (inl (inl refl)) refl
 pub only-fault-runs : (fs : List Fault) (next : Unit {0} → Step) (q : List Parts) (k : List Frame) → Runs [] [] (next tt) q k → Runs fs [] (unless_fault fs next) q k
 only-fault-runs fs next q k n = runs-by (fs ++ []) fs [] [] _ _ q q k k (append-nil fs) refl refl refl refl (fault-runs fs [] [] next q k n)
 
--- a form that isn't built is refused at its place
-pub built-runs : (b : Bool) (at : ℕ) (fs : List Fault) (ps : List ℕ) (next : Unit {0} → Step) (q : List Parts) (k : List Frame) →
-    (b ≡ true → Runs fs ps (next tt) q k) → Runs fs (elim b [ true ↦ ps | false ↦ at ∷ [] ]) (if_built b at next) q k
-built-runs true at fs ps next q k n = n refl
-built-runs false at fs ps next q k n = stops (fault code.NotYet at) (inr (refl, inl refl)) refl
+-- a form that isn't built is refused at its place, before what follows
+pub built-first-runs : (b : Bool) (at : ℕ) (fs : List Fault) (ps qs : List ℕ) (next : Unit {0} → Step) (g : List Frame → Step) (q : List Parts) (k : List Frame) →
+    (b ≡ true → Runs fs (ps ++ qs) (then_goes (next tt) g) q k) → Runs fs (elim b [ true ↦ ps | false ↦ at ∷ [] ] ++ qs) (then_goes (if_built b at next) g) q k
+built-first-runs true at fs ps qs next g q k n = n refl
+built-first-runs false at fs ps qs next g q k n = stops (fault code.NotYet at) (inr (refl, inl refl)) refl
 
 -- a run, and another that is asked for only where the first one goes
 pub then-runs-if : (fs gs : List Fault) (ps qs : List ℕ) (r : Step) (next : List Frame → Step) (q more : List Parts) (k l : List Frame) →

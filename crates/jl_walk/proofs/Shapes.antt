@@ -225,7 +225,7 @@ pub key-shapes : (w : List Place) (a : ℕ) (n : Text) (k : List Frame) → Stan
 unfolding take_key
 key-shapes w a n [] h = absurd h
 key-shapes w a n (values p ∷ k) h = absurd h.0
-key-shapes w a n (object_frame p i o ∷ k) h = by (phase_faults o.phase i n a) (is_built_key q (term i.final n))
+key-shapes w a n (object_frame p i o ∷ k) h = by (is_built_key q (term i.final n)) (phase_faults o.phase i n a)
   where
     q : Key
     q = key_of i.final n
@@ -236,10 +236,10 @@ key-shapes w a n (object_frame p i o ∷ k) h = by (phase_faults o.phase i n a) 
     next : List Frame
     next = object_frame p i (with_key q a n m) ∷ k
 
-    by : (fs : List Fault) (x : Bool) → Shapes (after_key ∷ w) (unless_fault fs (λ _. if_built x a (λ _. unless_fault (key_faults q p.under (seen_by m) a) (λ _. quiet next))))
-    by (f ∷ fs) x = tt
-    by [] false = tt
-    by [] true = shapes-unless (after_key ∷ w) (key_faults q p.under (seen_by m) a) [] next (key-expects q a n m, h.1)
+    by : (x : Bool) (fs : List Fault) → Shapes (after_key ∷ w) (if_built x a (λ _. unless_fault fs (λ _. unless_fault (key_faults q p.under (seen_by m) a) (λ _. quiet next))))
+    by false fs = tt
+    by true (f ∷ fs) = tt
+    by true [] = shapes-unless (after_key ∷ w) (key_faults q p.under (seen_by m) a) [] next (key-expects q a n m, h.1)
 key-shapes w a n (types b m g place ∷ k) h = absurd h.0
 key-shapes w a n (dropped ∷ k) h = (tt, h.1)
 

@@ -14,7 +14,7 @@ use Rattle.jl_model.specs.declared.expansions.Expanded.TheVariants as expanded
 use Rattle.jl_defs.specs.Texts.{Text, is_iri}
 use Rattle.jl_defs.specs.Context.{TermDef, Context, term}
 use Rattle.jl_defs.specs.Settings.{Settings, Under, property_of, elsewhere, lists}
-use Rattle.jl_defs.specs.Keys.{Key, its_context, id, kind, value, language, direction, index, graph, list, set, other, dropped as dropped_key, property, key_of, is_value, is_kind, is_list, is_set}
+use Rattle.jl_defs.specs.Keys.{Key, id, kind, value, language, direction, index, graph, list, set, other, dropped as dropped_key, property, key_of, is_value, is_kind, is_list, is_set}
 use Rattle.jl_defs.specs.ObjectContexts.{Inside, own_context, decide, is_context_name, is_in_prelude, after_context, after_prelude}
 use Rattle.jl_defs.specs.ValueObjects.{first_with, expand_type}
 use Rattle.jl_defs.specs.Kept.{own_member, any_key, is_only_language, if_key, form_of, form_keeps, keeps, entries, entries_by, value_gives, object_gives, decided_keeps, is_list_object, nested_keys, nest_inside, nested_entries, has_any, reversed_entries}
@@ -62,7 +62,6 @@ plain-key value t under g nested reverses e = (tt, tt)
 plain-key language t under g nested reverses e = (tt, tt)
 plain-key direction t under g nested reverses e = (tt, tt)
 plain-key index t under g nested reverses e = (tt, tt)
-plain-key its_context t under g nested reverses e = tt
 plain-key other t under g nested reverses e = tt
 plain-key dropped_key t under g nested reverses e = tt
 plain-key k t under g nested reverses e = absurd cc
@@ -274,7 +273,6 @@ silent-key value t qp n scope b texts qh qi qn qr e h p = refl
 silent-key language t qp n scope b texts qh qi qn qr e h p = refl
 silent-key direction t qp n scope b texts qh qi qn qr e h p = refl
 silent-key index t qp n scope b texts qh qi qn qr e h p = refl
-silent-key its_context t qp n scope b texts qh qi qn qr e h p = refl
 silent-key other t qp n scope b texts qh qi qn qr e h p = refl
 silent-key dropped_key t qp n scope b texts qh qi qn qr e h p = refl
 silent-key k t qp n scope b texts qh qi qn qr e h p = absurd cc
@@ -346,7 +344,6 @@ value-entry kind t under g nested reverses v r js b e = e
 value-entry language t under g nested reverses v r js b e = e
 value-entry direction t under g nested reverses v r js b e = e
 value-entry index t under g nested reverses v r js b e = e
-value-entry its_context t under g nested reverses v r js b e = e
 value-entry other t under g nested reverses v r js b e = e
 value-entry dropped_key t under g nested reverses v r js b e = e
 value-entry k t under g nested reverses v r js b e = absurd cc

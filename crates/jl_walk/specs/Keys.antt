@@ -1,7 +1,7 @@
--- A key comes: it is late, or of a form that isn't built, or it collides with one before it, or its value is expected.
-use Rattle.std.specs.Prelude.{ℕ, List, [], ◌∷◌, ◌++◌, Option}
+-- A key comes: it is of a form that isn't built, or late, or it collides with one before it, or its value is expected.
+use Rattle.std.specs.Prelude.{ℕ, List, [], ◌∷◌, ◌++◌}
 use Rattle.jl_defs.specs.Texts.{Text}
-use Rattle.jl_defs.specs.Context.{TermDef, term}
+use Rattle.jl_defs.specs.Context.{term}
 use Rattle.jl_defs.specs.Keys.{Key, id, kind, value, language, direction, index, property, key_of}
 use Rattle.jl_defs.specs.ObjectContexts.{Inside}
 use Rattle.jl_defs.specs.MemberFaults.{Seen, key_faults}
@@ -30,19 +30,19 @@ with_key k at name o = record o { expects = dropped_value }
 abbrev pub seen_by : Object → Seen
 seen_by o = record { entries = o.entries; kinds = [] }
 
--- the one place where a key is decided
-abbrev pub key_of_object : Key → Option TermDef → ℕ → Text → Spot → Inside → Object → List Frame → Step
-key_of_object q t at name p i o k =
-    if_built (is_built_key q t) at (λ _. unless_fault (key_faults q p.under (seen_by o) at)
-    (λ _. quiet (object_frame p i (with_key q at name o) ∷ k)))
+-- a key that may stand here collides with one before it, or its value is expected
+abbrev pub key_of_object : Key → ℕ → Text → Spot → Inside → Object → List Frame → Step
+key_of_object q at name p i o k =
+    unless_fault (key_faults q p.under (seen_by o) at) (λ _. quiet (object_frame p i (with_key q at name o) ∷ k))
 
 -- an object in another phase
 abbrev pub with_phase : Phase → Object → Object
 with_phase ph o = record o { phase = ph }
 
--- a key that comes too late stops; another is decided
+-- the one place where a key is decided: of a form that isn't built, then too late, then as above
 unfoldable pub take_key : ℕ → Text → List Frame → Step
 take_key at name (object_frame p i o ∷ k) =
-    unless_fault (phase_faults o.phase i name at)
-    (λ _. key_of_object (key_of i.final name) (term i.final name) at name p i (with_phase (follow o.phase i name) o) k)
+    if_built (is_built_key (key_of i.final name) (term i.final name)) at
+    (λ _. unless_fault (phase_faults o.phase i name at)
+    (λ _. key_of_object (key_of i.final name) at name p i (with_phase (follow o.phase i name) o) k))
 take_key at name k = quiet k

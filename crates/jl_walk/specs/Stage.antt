@@ -5,7 +5,7 @@ use Rattle.jl_model.specs.declared.codes.Code.TheVariants as code
 use Rattle.jl_model.specs.declared.faults.Fault.{Fault}
 use Rattle.jl_defs.specs.Context.{TermDef, Context, term, initial}
 use Rattle.jl_defs.specs.Settings.{Settings, Under, no_property, property_of, Stand, root, elsewhere, inside_of}
-use Rattle.jl_defs.specs.Keys.{Key, graph, included, list, set, reverse, nest, property, key_of, is_value}
+use Rattle.jl_defs.specs.Keys.{Key, its_context, graph, included, list, set, reverse, nest, property, key_of, is_value}
 use Rattle.jl_defs.specs.ObjectContexts.{fault, Inside, Own, own_context, decide}
 use Rattle.jl_defs.specs.ValueObjects.{first_with, is_json, is_json_type, value_type}
 use Rattle.jl_defs.specs.Kept.{is_json_kind}
@@ -22,6 +22,7 @@ is_built_term (Some t) =
 -- so are the values of this key
 abbrev pub is_built_key : Key → Option TermDef → Bool
 is_built_key (property iri) t = is_built_term t
+is_built_key its_context t = false
 is_built_key graph t = false
 is_built_key included t = false
 is_built_key list t = false
