@@ -1,5 +1,6 @@
 -- The parts of a quad (RDF 1.1 N-Quads, section 2), and when they are well-formed.
-use Rattle.std.specs.Prelude.{◌≡◌, ℕ, List, Option, Some, None, IsTrue, IsUtf8, codes}
+use Rattle.std.specs.Prelude.{◌≡◌, ℕ, Bool, true, false, List, Option, Some, None, Result, Ok, Err, IsTrue, IsUtf8, codes}
+use Rattle.jl_model.specs.declared.texts.NoMemory.{NoMemory}
 use Rattle.jl_model.specs.Iris.{IsIri}
 use Rattle.jl_model.specs.Labels.{is_kept_label}
 use Rattle.jl_model.specs.Tags.{is_language_tag}
@@ -24,6 +25,10 @@ rdf_lang_string = codes "http://www.w3.org/1999/02/22-rdf-syntax-ns#langString"
 -- xsd:string
 abbrev pub xsd_string : List ℕ
 xsd_string = codes "http://www.w3.org/2001/XMLSchema#string"
+
+-- the literal of a string
+abbrev pub plain : List ℕ → Lit
+plain text = record { text = text; datatype = xsd_string; language = None }
 
 -- the name of a node: an IRI, or a label of the kept form
 abbrev pub IsNode : Term → Type 0
@@ -59,3 +64,26 @@ pub record AreWellFormed (parts : Parts) : Type 0 where
   pub predicate : IsIri parts.predicate
   pub object : IsObject parts.object
   pub graph : IsGraph parts.graph
+
+-- the same quad, but for one part
+abbrev pub with_subject : Parts → Term → Parts
+with_subject q subject = record q { subject = subject }
+
+abbrev pub with_predicate : Parts → List ℕ → Parts
+with_predicate q predicate = record q { predicate = predicate }
+
+abbrev pub with_object : Parts → Term → Parts
+with_object q object = record q { object = object }
+
+abbrev pub with_graph : Parts → Option Term → Parts
+with_graph q graph = record q { graph = graph }
+
+-- a part is set where it is well-formed; else the quad stays as it was
+abbrev pub Sets : Bool → Type 0 → Parts → Parts → Parts → Type 0
+Sets true IsFormed set old new = IsFormed × (new ≡ set)
+Sets false IsFormed set old new = (IsFormed → ⊥) × (new ≡ old)
+
+-- the same of a call that may take memory
+abbrev pub MaySet : Result Bool NoMemory → Type 0 → Parts → Parts → Parts → Type 0
+MaySet (Ok is_set) IsFormed set old new = Sets is_set IsFormed set old new
+MaySet (Err stop) IsFormed set old new = new ≡ old

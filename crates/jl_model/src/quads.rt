@@ -1,8 +1,10 @@
 //! Quads.
-ghost use Rattle.std.specs.Prelude.{◌≡◌, ◌↔◌, IsTrue, IfSome, IsSome, IfOk};
+ghost use Rattle.std.specs.Prelude.{◌≡◌, ◌↔◌, IsTrue, Some, IfSome, IsSome, IfOk, IsUtf8};
 ghost use Rattle.std.specs.Option.{option_copied};
 ghost use Rattle.jl_model.specs.Iris.{IsIri};
 ghost use Rattle.jl_model.specs.Parts.{IsNode, IsLit, IsObject, IsGraph, IsLanguage, xsd_string};
+ghost use Rattle.jl_model.specs.Parts.{MaySet, Sets, plain};
+ghost use Rattle.jl_model.specs.Parts.{with_subject, with_predicate, with_object, with_graph};
 
 use super::terms::{Lit, Term};
 use super::text_tests::{is_iri, is_kept_label, is_language_tag};
@@ -86,6 +88,89 @@ impl Quad {
         self.graph.as_ref()
     }
 
+    /// Sets the subject, where it is well-formed, and tells whether it is.
+    pub fn set_subject(&mut self, alloc: Global, subject: &Term) -> Result<bool, NoMemory>
+        ensures { MaySet result (IsNode subject.now)
+            (with_subject self.old subject.now) self.old self.new }
+    {
+        if self.subject.is_same_name(subject) {
+            return Ok(true);
+        }
+        if !is_node(subject) {
+            return Ok(false);
+        }
+        self.subject.set(alloc, subject)?;
+        Ok(true)
+    }
+
+    /// Sets the predicate, where it is an IRI, and tells whether it is.
+    pub fn set_predicate(&mut self, predicate: &[u8]) -> Result<bool, NoMemory>
+        ensures { MaySet result (IsIri predicate.now)
+            (with_predicate self.old predicate.now) self.old self.new }
+    {
+        if self.predicate.bytes() == predicate {
+            return Ok(true);
+        }
+        if !is_iri(predicate) {
+            return Ok(false);
+        }
+        self.predicate.set(predicate)?;
+        Ok(true)
+    }
+
+    /// Sets the object, where it is well-formed, and tells whether it is.
+    pub fn set_object(&mut self, object: Term) -> bool
+        ensures { Sets result (IsObject object) (with_object self.old object) self.old self.new }
+    {
+        if !is_object(&object) {
+            return false;
+        }
+        self.object = object;
+        true
+    }
+
+    /// Makes the object the literal of a string, where this is UTF-8, and tells whether it is.
+    pub fn set_text(&mut self, alloc: Global, text: &[u8]) -> Result<bool, NoMemory>
+        ensures { MaySet result (IsUtf8 text.now)
+            (with_object self.old (Term.Literal (plain text.now))) self.old self.new }
+    {
+        if !is_utf8(text) {
+            return Ok(false);
+        }
+        self.object.set_plain(alloc, text)?;
+        Ok(true)
+    }
+
+    /// Sets the graph, where it is well-formed, and tells whether it is.
+    pub fn set_graph(&mut self, alloc: Global, graph: Option<&Term>) -> Result<bool, NoMemory>
+        ensures { MaySet result (IsGraph (option_copied graph.entry))
+            (with_graph self.old (option_copied graph.entry)) self.old self.new }
+    {
+        match graph {
+            None => {
+                self.graph = None;
+                Ok(true)
+            }
+            Some(name) => self.set_graph_name(alloc, name),
+        }
+    }
+
+    fn set_graph_name(&mut self, alloc: Global, name: &Term) -> Result<bool, NoMemory>
+        ensures { MaySet result (IsNode name.now)
+            (with_graph self.old (Some name.now)) self.old self.new }
+    {
+        if let Some(graph) = &self.graph {
+            if graph.is_same_name(name) {
+                return Ok(true);
+            }
+        }
+        if !is_node(name) {
+            return Ok(false);
+        }
+        self.graph = Some(name.copy(alloc)?);
+        Ok(true)
+    }
+
     /// An equal quad with memory of its own.
     pub fn copy(&self, alloc: Global) -> Result<Quad, NoMemory>
         ensures { IfOk result (λ quad. quad ≡ self.now) }
@@ -116,10 +201,16 @@ fn is_node(term: &Term) -> bool
     }
 }
 
+fn is_utf8(text: &[u8]) -> bool
+    ensures { IsTrue result ↔ IsUtf8 text.now }
+{
+    std::str::from_utf8(text).is_ok()
+}
+
 fn is_lit(lit: &Lit) -> bool
     ensures { IsTrue result ↔ IsLit lit.now }
 {
-    std::str::from_utf8(lit.text.bytes()).is_ok()
+    is_utf8(lit.text.bytes())
         && is_datatype(lit.datatype.bytes())
         && is_language(lit.datatype.bytes(), &lit.language)
 }

@@ -47,6 +47,37 @@ fn a_quad_is_made_and_copied(rt: HostRuntime) -> Result<(), Fail> {
     Ok(())
 }
 
+/// A predicate, a text, and whether a quad takes each.
+const PARTS: [(&[u8], bool, &[u8], bool); 5] = [
+    (b"http://a/p", true, b"a longer text", true),
+    (b"http://a/p/q", true, b"y", true),
+    (b"none", false, b"", true),
+    (b"", false, b"\xff", false),
+    (b"http://a/p", true, b"another", true),
+];
+
+#[test]
+fn a_quad_is_refilled(rt: HostRuntime) -> Result<(), Fail> {
+    let Some(mut quad) = tagged_quad(rt.alloc())? else {
+        return Err(Fail::from("no quad is made"));
+    };
+    let subject = Term::Iri(Text::from_bytes(rt.alloc(), b"http://a/s")?);
+    let label = Term::Blank(Text::from_bytes(rt.alloc(), b"b.")?);
+    for (predicate, is_iri, text, is_utf8) in PARTS {
+        assert_eq!(rt; quad.set_predicate(predicate)?, is_iri);
+        assert_eq!(rt; quad.set_text(rt.alloc(), text)?, is_utf8);
+        assert_eq!(rt; quad.set_subject(rt.alloc(), &subject)?, true);
+        assert_eq!(rt; quad.set_subject(rt.alloc(), &label)?, false);
+        assert_eq!(rt; quad.set_graph(rt.alloc(), Some(&subject))?, true);
+        assert_eq!(rt; quad.set_graph(rt.alloc(), Some(&label))?, false);
+        assert_eq!(rt; quad.set_graph(rt.alloc(), None)?, true);
+    }
+    assert_eq!(rt; quad.predicate().bytes(), b"http://a/p".as_slice());
+    assert_eq!(rt; quad.set_object(label), false);
+    assert_eq!(rt; quad.set_object(subject), true);
+    Ok(())
+}
+
 /// A text, whether it has the form of an IRI, and whether it is one.
 const IRIS: [(&[u8], bool, bool); 19] = [
     // no whole block

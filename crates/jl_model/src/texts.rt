@@ -1,5 +1,5 @@
 //! Byte strings, and the answer for want of memory.
-ghost use Rattle.std.specs.Prelude.{◌≡◌, ◌++◌, [], ◌∷◌, IfOk, OnOk, OnErr, IsTrue, ◌↔◌};
+ghost use Rattle.std.specs.Prelude.{◌≡◌, ◌++◌, [], ◌∷◌, IfOk, OnOk, OnErr, IsTrue, ◌↔◌, ◌≤◌, vec_capacity};
 
 use std::alloc::{AllocError, Global};
 use std::marker::Model;
@@ -87,5 +87,33 @@ impl Text {
         ensures { self.new ≡ [] }
     {
         self.octets.clear();
+    }
+
+    /// Becomes these bytes. It takes memory only where they are more than those before.
+    pub fn set(&mut self, bytes: &[u8]) -> Result<(), NoMemory>
+        ensures ok { OnOk result (self.new ≡ bytes.now) }
+        ensures err { OnErr result (self.new ≡ self.old) }
+    {
+        make_room(&mut self.octets, bytes.len())?;
+        self.octets.clear();
+        if self.octets.extend_from_slice(bytes).is_err() {
+            unreachable!();
+        }
+        Ok(())
+    }
+}
+
+/// Takes memory for that many bytes, if there isn't enough.
+fn make_room(octets: &mut Vec<u8>, count: usize) -> Result<(), NoMemory>
+    ensures room { OnOk result (count ≤ vec_capacity octets.new) }
+    ensures same { octets.new.items ≡ octets.old.items }
+{
+    let filled = octets.len();
+    if count <= filled {
+        return Ok(());
+    }
+    match octets.reserve(count - filled) {
+        Ok(()) => Ok(()),
+        Err(_) => Err(NoMemory),
     }
 }

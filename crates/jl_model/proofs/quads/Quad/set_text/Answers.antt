@@ -1,0 +1,12 @@
+use Rattle.std.proofs.Common.{◌≡◌, sym, subst}
+use Rattle.jl_model.specs.Parts.{IsObject}
+use Rattle.jl_model.proofs.Datatypes.{plain_is_object}
+use Rattle.jl_model.proofs.quads.Quad.set_text.Goals as goal
+
+pub invariant_of-self-2 : goal.invariant_of-self-2
+invariant_of-self-2 c = record {
+  subject = c.self.invariant.subject;
+  predicate = c.self.invariant.predicate;
+  object = subst IsObject (sym c.in_ok-set_plain.ensures.ok) (plain_is_object c.args.text.now (c.is_utf8.ensures.0 c.if-not-is_utf8.false));
+  graph = c.self.invariant.graph;
+}
