@@ -38,3 +38,4 @@ pub mod ReportLine
 pub mod Sets
 pub mod OpenText
 pub mod Documents
+pub mod TermDefs

@@ -11,6 +11,7 @@ mod orders;
 mod outs;
 mod quads;
 mod scalars;
+mod term_defs;
 mod term_parts;
 mod terms;
 #[cfg(test)]
@@ -30,6 +31,7 @@ pub use orders::Order;
 pub use outs::{OutStop, QuadOut};
 pub use quads::Quad;
 pub use scalars::Scalar;
+pub use term_defs::{Scoped, TermDef};
 pub use term_parts::{Containers, DirEntry, LangEntry};
 pub use terms::{Lit, Term};
 pub use text_tests::{
