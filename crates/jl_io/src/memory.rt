@@ -121,8 +121,9 @@ impl ByteOut for MemPort {
           written = self.old.written ++ take n bytes.now;
           room = self.old.room - n;
         }) }
-        ensures err { OnErr result (self.new ≡ record self.old { put_faults = counted
-            self.old.put_faults }) }
+        ensures err { OnErr result (self.new ≡ record self.old {
+          put_faults = counted self.old.put_faults;
+        }) }
         ensures cause { HasCause self.old.put_faults self.new.put_faults (IsErr result) }
     {
         if self.room == 0 {

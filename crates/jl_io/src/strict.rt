@@ -27,8 +27,11 @@ impl Model for StrictPort {
 
     ghost Value = { Strict };
 
-    ghost view = { λ p. record { memory = p.memory; pairs = p.pairs.items;
-        take_faults = p.take_faults } };
+    ghost view = { λ p. record {
+      memory = p.memory;
+      pairs = p.pairs.items;
+      take_faults = p.take_faults;
+    } };
 }
 
 impl StrictPort {
@@ -118,8 +121,9 @@ impl Port for StrictPort {
         requires open { self.old.memory.ended ≡ false }
         ensures failed { IsErr result ↔ (are_met self.old.pairs
             (length self.old.memory.taken) self.old.memory.written ≡ false) }
-        ensures err { OnErr result (self.new ≡ record self.old { take_faults = counted
-            self.old.take_faults }) }
+        ensures err { OnErr result (self.new ≡ record self.old {
+          take_faults = counted self.old.take_faults;
+        }) }
         ensures cause { HasCause self.old.take_faults self.new.take_faults (IsErr result) }
 
         // What it gives, as the port over memory.
@@ -145,8 +149,11 @@ impl Port for StrictPort {
     }
 
     fn say(&mut self, bytes: &[u8])
-        ensures { self.new ≡ record self.old { memory = record self.old.memory { said = said_with
-            self.old.memory.said bytes.now } } }
+        ensures { self.new ≡ record self.old {
+          memory = record self.old.memory {
+            said = said_with self.old.memory.said bytes.now;
+          };
+        } }
     {
         self.memory.say(bytes)
     }
