@@ -117,6 +117,13 @@ hang_main n p o s e f = main-quad s p o ∙ hang-in n p o s Main e f
 pub hang_named : (n : Node) (p : Text) (o : Option Term) (s g : Term) → n.subject ≡ Some s → n.scope ≡ Named g → quad_with s p o (Some g) ≡ hang n p o
 hang_named n p o s g e f = named-quad s p o g ∙ hang-in n p o s (Named g) e f
 
+-- the same of a literal
+pub literal_main : (n : Node) (p : Text) (lit : Lit) (s : Term) → n.subject ≡ Some s → n.scope ≡ Main → formed (parts_of s p (Literal lit) None ∷ []) ≡ hang n p (Some (Literal lit))
+literal_main n p lit s e f = hang_main n p (Some (Literal lit)) s e f
+
+pub literal_named : (n : Node) (p : Text) (lit : Lit) (s g : Term) → n.subject ≡ Some s → n.scope ≡ Named g → formed (parts_of s p (Literal lit) (Some g) ∷ []) ≡ hang n p (Some (Literal lit))
+literal_named n p lit s g e f = hang_named n p (Some (Literal lit)) s g e f
+
 -- a literal that isn't well-formed is left out either way
 not-lit : (u d l : Bool) → (d && u) ≡ false → (u && (d && l)) ≡ false
 not-lit true true l e = absurd cc

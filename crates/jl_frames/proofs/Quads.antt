@@ -1,5 +1,5 @@
 -- Quads are left out where a part isn't well-formed, and the terms of texts.
-use Rattle.std.proofs.Common.{◌≡◌, refl, sym, ◌∙◌, ap, Bool, true, false, ◌&&◌, [], ◌∷◌, inl, inr, Option, Some, None, IsSome, IfSome, IsTrue, IsUtf8, ◌↔◌}
+use Rattle.std.proofs.Common.{◌≡◌, refl, sym, ◌∙◌, ap, Bool, true, false, ◌&&◌, [], ◌∷◌, inl, inr, Option, Some, None, Result, Ok, Err, IfOk, IsSome, IsTrue, IsUtf8, ◌↔◌, subst}
 use Rattle.std.proofs.lemmas.Bool.{cases_Bool, and_from, and_parts}
 use Rattle.std.proofs.lemmas.Str.{IsUtf8-from_is_utf8, is_utf8-from_IsUtf8}
 use Rattle.std.proofs.lemmas.Slice.Eq.{bytes_eq-Decides}
@@ -7,12 +7,13 @@ use Rattle.std.specs.Prelude.{bytes_eq}
 use Rattle.std.specs.Str.{is_utf8}
 use Rattle.jl_model.specs.Iris.{IsIri, has_iri_form}
 use Rattle.jl_model.specs.Tags.{is_language_tag}
-use Rattle.jl_model.specs.Parts.{Parts, rdf_lang_string, IsNode, IsLanguage, IsLit, IsObject, IsGraph, AreWellFormed}
+use Rattle.jl_model.specs.Parts.{Parts, parts_of, plain, rdf_lang_string, IsNode, IsLanguage, IsLit, IsObject, IsGraph, AreWellFormed, with_object}
 use Rattle.jl_model.specs.declared.terms.Lit.{Lit}
 use Rattle.jl_model.specs.declared.terms.Term.{Term}
 use Rattle.jl_model.specs.declared.terms.Term.TheVariants.{Iri, Blank, Literal}
 use Rattle.jl_defs.specs.Texts.{Text, is_iri}
-use Rattle.jl_frames.specs.Formed.{is_node, is_language, is_lit, is_object, is_graph, is_formed, formed, listed}
+use Rattle.jl_frames.specs.Formed.{is_node, is_language, is_lit, is_object, is_graph, is_formed, formed, IsReady}
+use Rattle.jl_frames.specs.Nodes.{quad_with}
 
 iri-is : (text : Text) → IsIri text → is_iri text ≡ true
 iri-is text h = and_from (has_iri_form text) (is_utf8 text) h.form (is_utf8-from_IsUtf8 text h.utf8)
@@ -100,7 +101,42 @@ kept q made h e = ap (λ x. x ∷ []) e ∙ sym (rw (formed-is q h) refl)
 pub left_out : (q : Parts) → (AreWellFormed q → ⊥) → [] ≡ formed (q ∷ [])
 left_out q h = elim (cases_Bool (is_formed q)) [ inl e ↦ absurd (h (is-formed q e)) | inr e ↦ sym (rw e refl) ]
 
--- what was made of a quad's parts
-pub made : (quad : Option Parts) (q : Parts) → (IsSome quad ↔ AreWellFormed q) → IfSome quad (λ x. x ≡ q) → listed quad ≡ formed (q ∷ [])
-made None q same e = left_out q (λ h. absurd (let no = same.1 h in cc))
-made (Some x) q same e = kept q x (same.0 refl) e
+-- a quad without one of its parts is left out
+pub subject_out : (s : Term) (p : Text) (g : Option Term) → (IsNode s → ⊥) → (o : Term) → [] ≡ formed (parts_of s p o g ∷ [])
+subject_out s p g h o = left_out (parts_of s p o g) (λ w. h w.subject)
+
+pub predicate_out : (s : Term) (p : Text) (g : Option Term) → (IsIri p → ⊥) → (o : Term) → [] ≡ formed (parts_of s p o g ∷ [])
+predicate_out s p g h o = left_out (parts_of s p o g) (λ w. h w.predicate)
+
+pub graph_out : (s : Term) (p : Text) (g : Option Term) → (IsGraph g → ⊥) → (o : Term) → [] ≡ formed (parts_of s p o g ∷ [])
+graph_out s p g h o = left_out (parts_of s p o g) (λ w. h w.graph)
+
+pub object_out : (q : Parts) (o : Term) → (IsObject o → ⊥) → [] ≡ formed (with_object q o ∷ [])
+object_out q o h = left_out (with_object q o) (λ w. h w.object)
+
+pub text_out : (q : Parts) (text : Text) → (IsUtf8 text → ⊥) → [] ≡ formed (with_object q (Literal (plain text)) ∷ [])
+text_out q text h = left_out (with_object q (Literal (plain text))) (λ w. h (w.object).text)
+
+-- a quad that lacked only its object
+pub ready_with : (q : Parts) (s : Term) (p : Text) (g : Option Term) (o : Term) → q ≡ parts_of s p q.object g → formed (with_object q o ∷ []) ≡ quad_with s p (Some o) g
+ready_with q s p g o e = ap (λ x. formed (with_object x o ∷ [])) e
+
+-- where other parts aren't well-formed there is no quad, whatever the object
+pub unready : (s : Term) (p : Text) (o : Option Term) (g : Option Term) → ((x : Term) → [] ≡ formed (parts_of s p x g ∷ [])) → [] ≡ quad_with s p o g
+unready s p None g h = refl
+unready s p (Some o) g h = h o
+
+-- parts that were set after one that stood
+pub rest_set : (b : Bool) (q : Parts) (s t : Term) (p r : Text) (g : Option Term) → IsReady b q s p g → s ≡ t → p ≡ r → IsReady b q t r g
+rest_set b q s t p r g h e f = subst (λ x. IsReady b q x r g) e (subst (λ x. IsReady b q s x g) f h)
+
+-- the name of a node may stand as an object
+node_object : (t : Term) → IsNode t → IsObject t
+node_object (Iri iri) h = h
+node_object (Blank label) h = h
+node_object (Literal lit) h = absurd h
+
+-- a quad that couldn't be made with its subject as the object can't be made with any
+pub unmade : (s o : Term) (p : Text) (g : Option Term) → o ≡ s → (IsSome {T = Parts} None ↔ AreWellFormed (parts_of s p o g)) → (x : Term) → [] ≡ formed (parts_of s p x g ∷ [])
+unmade s o p g e same x =
+    left_out (parts_of s p x g) (λ w. absurd (let no = same.1 (record { subject = w.subject; predicate = w.predicate; object = subst IsObject (sym e) (node_object s w.subject); graph = w.graph }) in cc))

@@ -1,9 +1,9 @@
 -- Quads whose parts are well-formed: the others are left out (JSON-LD 1.1 API, section 8.1).
-use Rattle.std.specs.Prelude.{Bool, true, false, ◌&&◌, List, [], ◌∷◌, filter, Option, Some, None, bytes_eq}
+use Rattle.std.specs.Prelude.{◌≡◌, Bool, true, false, ◌&&◌, List, [], ◌∷◌, filter, Option, Some, None, bytes_eq}
 use Rattle.std.specs.Str.{is_utf8}
 use Rattle.jl_model.specs.Labels.{is_kept_label}
 use Rattle.jl_model.specs.Tags.{is_language_tag}
-use Rattle.jl_model.specs.Parts.{Parts, rdf_lang_string}
+use Rattle.jl_model.specs.Parts.{Parts, parts_of, rdf_lang_string}
 use Rattle.jl_model.specs.declared.terms.Lit.{Lit}
 use Rattle.jl_model.specs.declared.terms.Term.{Term}
 use Rattle.jl_model.specs.declared.terms.Term.TheVariants.{Iri, Blank, Literal}
@@ -13,11 +13,6 @@ use Rattle.jl_defs.specs.Texts.{Text, is_iri}
 abbrev pub listed : {A : Type 0} → Option A → List A
 listed None = []
 listed (Some x) = x ∷ []
-
--- the same, where there may be no place for it
-abbrev pub all_listed : {A : Type 0} → Option (Option A) → List A
-all_listed None = []
-all_listed (Some o) = listed o
 
 abbrev pub is_node : Term → Bool
 is_node (Iri iri) = is_iri iri
@@ -47,3 +42,13 @@ is_formed q = is_node q.subject && (is_iri q.predicate && (is_object q.object &&
 -- those of the quads that are well-formed
 abbrev pub formed : List Parts → List Parts
 formed quads = filter is_formed quads
+
+-- a quad that lacks only its object has these other parts, where they are well-formed
+abbrev pub IsReady : Bool → Parts → Term → Text → Option Term → Type 0
+IsReady true q s p g = q ≡ parts_of s p q.object g
+IsReady false q s p g = (o : Term) → [] ≡ formed (parts_of s p o g ∷ [])
+
+-- the same of a quad that is there only then
+abbrev pub AllReady : Option Parts → Term → Text → Option Term → Type 0
+AllReady (Some q) s p g = IsReady true q s p g
+AllReady None s p g = (o : Term) → [] ≡ formed (parts_of s p o g ∷ [])

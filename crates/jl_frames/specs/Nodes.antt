@@ -1,7 +1,7 @@
 -- An open object: what its keys mean, and what the scalars that it takes bring. No context is known here: the texts
 -- have been expanded.
 use Rattle.std.specs.Prelude.{ℕ, Bool, true, false, List, [], ◌∷◌, Option, Some, None, Result, Ok, Err}
-use Rattle.jl_model.specs.Parts.{Parts, parts_of}
+use Rattle.jl_model.specs.Parts.{Parts, parts_of, plain}
 use Rattle.jl_model.specs.declared.scalars.Scalar.{Scalar}
 use Rattle.jl_model.specs.declared.scalars.Scalar.TheVariants.{Str}
 use Rattle.jl_model.specs.declared.codes.Code.{Code}
@@ -198,3 +198,10 @@ take_pending pending.Nothing f n = Ok ([], n)
 -- the object takes a scalar as the value of the key read last, or in an array there
 unfoldable pub take_scalar : ValueFact → Node → Taken
 take_scalar f n = take_pending n.pending f n
+
+-- a string under a property
+abbrev pub given_text : Text → Given
+given_text text = given.Valued (valued.Literal (plain text))
+
+abbrev pub text_fact : ℕ → Text → ValueFact
+text_fact at text = record { at = at; given = given_text text }

@@ -8,6 +8,7 @@ ghost use Rattle.jl_frames.specs.declared.opens.Open.{Open as SpecOpen};
 
 use super::emits::Emits;
 use super::opens::Open;
+use super::spares::Spare;
 use super::states::{FrameStop, StackState};
 use super::values::Ended;
 use jl_model::{Lit, NoMemory};
@@ -15,19 +16,19 @@ use std::alloc::Global;
 
 impl StackState {
     /// The innermost container closes.
-    pub(crate) fn on_close(&mut self, alloc: Global) -> Result<Emits, FrameStop>
+    pub(crate) fn on_close(&mut self, alloc: Global, spare: &mut Spare) -> Result<Emits, FrameStop>
         requires live { IsLive self.old }
         ensures { Goes result (spec.on_close self.old.node self.old.opens) self.old self.new }
     {
         if self.opens.is_in_object() {
-            return self.close_object(alloc);
+            return self.close_object(alloc, spare);
         }
         self.opens.drop_innermost();
         self.complete();
         Ok(Emits::none())
     }
 
-    fn close_object(&mut self, alloc: Global) -> Result<Emits, FrameStop>
+    fn close_object(&mut self, alloc: Global, spare: &mut Spare) -> Result<Emits, FrameStop>
         requires live { IsLive self.old }
         requires object { spec.in_object self.old.opens ≡ true }
         ensures { Goes result (spec.on_close self.old.node self.old.opens) self.old self.new }
@@ -37,8 +38,8 @@ impl StackState {
                 self.leave();
                 Ok(Emits::none())
             }
-            Ended::Node => self.close_node(alloc),
-            Ended::Value(lit) => self.close_value(alloc, lit),
+            Ended::Node => self.close_node(alloc, spare),
+            Ended::Value(lit) => self.close_value(alloc, spare, lit),
         }
     }
 
@@ -77,7 +78,7 @@ impl StackState {
     }
 
     /// A node closes: it is an item of the property round it.
-    fn close_node(&mut self, alloc: Global) -> Result<Emits, FrameStop>
+    fn close_node(&mut self, alloc: Global, spare: &mut Spare) -> Result<Emits, FrameStop>
         requires live { IsLive self.old }
         ensures ok { IfOk result (λ quads. (o : Option SpecNode) (k : List SpecOpen)
             → self.old.opens ≡ Open.Object o ∷ k
@@ -86,7 +87,7 @@ impl StackState {
         ensures err { IfErr result (λ stop. stop ≡ FrameStop.NoMemory) }
         ensures kept { OnErr result (self.new ≡ self.old) }
     {
-        let emits = self.hang_node(alloc)?;
+        let emits = self.hang_node(alloc, spare)?;
         self.leave_kept();
         Ok(emits)
     }
@@ -95,7 +96,7 @@ impl StackState {
     /// unless memory is wanting.
     #[inline(always)]
     #[tactic(auto, using(crate::proofs::Hanging::hang_on_none))]
-    fn hang_node(&mut self, alloc: Global) -> Result<Emits, NoMemory>
+    fn hang_node(&mut self, alloc: Global, spare: &mut Spare) -> Result<Emits, NoMemory>
         ensures ok { IfOk result (λ quads. quads
             ≡ spec.hang_on (spec.outer_of self.old.opens) (spec.subject_of self.old.node)) }
         ensures others { KeepsOthers self.old self.new }
@@ -103,13 +104,18 @@ impl StackState {
     {
         match &mut self.node {
             None => Ok(Emits::none()),
-            Some(node) => node.hang_on(alloc, self.opens.outer()),
+            Some(node) => node.hang_on(alloc, spare, self.opens.outer()),
         }
     }
 
     /// A literal is an item of the property round its object.
     #[inline(never)]
-    fn close_value(&mut self, alloc: Global, lit: Option<Lit>) -> Result<Emits, FrameStop>
+    fn close_value(
+        &mut self,
+        alloc: Global,
+        spare: &mut Spare,
+        lit: Option<Lit>,
+    ) -> Result<Emits, FrameStop>
         requires live { IsLive self.old }
         ensures ok { IfOk result (λ quads. (o : Option SpecNode) (k : List SpecOpen)
             → self.old.opens ≡ Open.Object o ∷ k
@@ -118,18 +124,23 @@ impl StackState {
         ensures err { IfErr result (λ stop. stop ≡ FrameStop.NoMemory) }
         ensures kept { OnErr result (self.new ≡ self.old) }
     {
-        let emits = self.hang_literal(alloc, lit)?;
+        let emits = self.hang_literal(alloc, spare, lit)?;
         self.leave_kept();
         Ok(emits)
     }
 
-    fn hang_literal(&self, alloc: Global, lit: Option<Lit>) -> Result<Emits, NoMemory>
+    fn hang_literal(
+        &self,
+        alloc: Global,
+        spare: &mut Spare,
+        lit: Option<Lit>,
+    ) -> Result<Emits, NoMemory>
         ensures { IfOk result (λ quads. quads
             ≡ spec.hang_on (spec.outer_of self.now.opens) (term_of_lit lit)) }
     {
         match self.opens.outer() {
             None => Ok(Emits::none()),
-            Some(outer) => outer.node().hang_literal(alloc, lit),
+            Some(outer) => outer.node().hang_literal(alloc, spare, lit),
         }
     }
 

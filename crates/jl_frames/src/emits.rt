@@ -1,5 +1,5 @@
 //! The quads that one fact brings.
-ghost use Rattle.std.specs.Prelude.{◌≡◌, ◌↔◌, [], IsTrue};
+ghost use Rattle.std.specs.Prelude.{◌≡◌, ◌↔◌, [], ◌∷◌, IsTrue};
 ghost use Rattle.jl_frames.specs.Formed.{listed};
 
 use super::rooms::Room;
@@ -16,11 +16,11 @@ pub struct Emits {
 impl Model for Emits {
     ghost use Rattle.std.specs.Prelude.{List};
     ghost use Rattle.jl_model.specs.Parts.{Parts};
-    ghost use Rattle.jl_frames.specs.Formed.{all_listed};
+    ghost use Rattle.jl_frames.specs.Formed.{listed};
 
     ghost Value = { List Parts };
 
-    ghost view = { λ emits. all_listed emits.room };
+    ghost view = { λ emits. listed emits.room };
 }
 
 impl Emits {
@@ -32,10 +32,10 @@ impl Emits {
         Emits { room: None }
     }
 
-    /// The quad in the room, if there is one.
+    /// The quad in the room.
     #[inline(always)]
     pub(crate) fn of_room(room: Room) -> Emits
-        ensures { result ≡ listed room }
+        ensures { result ≡ room ∷ [] }
     {
         Emits { room: Some(room) }
     }
@@ -45,10 +45,7 @@ impl Emits {
     pub fn is_empty(&self) -> bool
         ensures { IsTrue result ↔ self.now ≡ [] }
     {
-        match &self.room {
-            None => true,
-            Some(room) => room.quad().is_none(),
-        }
+        self.room.is_none()
     }
 
     /// The quad, if there is one, moved to where it shall stand.
@@ -57,8 +54,14 @@ impl Emits {
     {
         match self.room {
             None => None,
-            Some(room) => room.into_quad(),
+            Some(room) => Some(room.into_quad()),
         }
+    }
+
+    /// The room, if there is one.
+    #[inline(always)]
+    pub(crate) fn into_room(self) -> Option<Room> {
+        self.room
     }
 
     /// The quads, lent.
@@ -67,16 +70,7 @@ impl Emits {
     {
         match &self.room {
             None => &[],
-            Some(room) => as_slice(room.quad()),
+            Some(room) => slice::from_ref(room.quad()),
         }
-    }
-}
-
-fn as_slice(quad: &Option<Quad>) -> &[Quad]
-    ensures { result.now ≡ listed quad.now }
-{
-    match quad {
-        None => &[],
-        Some(quad) => slice::from_ref(quad),
     }
 }

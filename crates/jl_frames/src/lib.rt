@@ -15,6 +15,7 @@ mod opens;
 mod reads;
 mod roles;
 mod rooms;
+mod spares;
 mod stacks;
 mod states;
 mod takes;

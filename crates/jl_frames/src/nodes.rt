@@ -13,6 +13,7 @@ use super::emits::Emits;
 use super::entries::Entries;
 use super::facts::{Frame, Given, KeyFact, ValueFact};
 use super::keywords::{Keyword, Meaning};
+use super::spares::Spare;
 use super::states::FrameStop;
 use super::terms::{rdf_type, term_of_text};
 use super::values::{Kinds, RawValue, ValueParts};
@@ -101,22 +102,66 @@ impl Node {
 
     /// Takes a scalar as the value of the key read last, or in an array there.
     #[tactic(auto, unfolding(crate::specs::Nodes::take_scalar))]
-    pub fn take_scalar(&mut self, alloc: Global, fact: ValueFact) -> Result<Emits, FrameStop>
+    pub(crate) fn take_scalar(
+        &mut self,
+        alloc: Global,
+        spare: &mut Spare,
+        fact: ValueFact,
+    ) -> Result<Emits, FrameStop>
         ensures { Goes result (spec.take_scalar fact self.old) self.old self.new }
     {
         match self.pending {
-            Pending::Property(_) => self.take_value(alloc, fact.given),
-            Pending::Keyword { at, keyword } => self.take_under(alloc, keyword, at, fact),
+            Pending::Property(_) => self.take_value(alloc, spare, fact.given),
+            Pending::Keyword { at, keyword } => self.take_under(alloc, spare, keyword, at, fact),
             Pending::Nothing | Pending::Ignored => Ok(Emits::none()),
         }
     }
 
-    fn take_value(&mut self, alloc: Global, given: Given) -> Result<Emits, FrameStop>
+    /// Takes a string as the value of a property, or in an array there.
+    #[tactic(auto, unfolding(crate::specs::Nodes::take_scalar))]
+    pub(crate) fn take_text(
+        &mut self,
+        alloc: Global,
+        spare: &mut Spare,
+        _at: u64,
+        text: &[u8],
+    ) -> Result<Emits, FrameStop>
+        ensures { Goes result
+            (spec.take_scalar (spec.text_fact _at text.now) self.old) self.old self.new }
+    {
+        match self.pending {
+            Pending::Property(_) => self.take_string(alloc, spare, text),
+            Pending::Keyword { at, keyword } => Err(wrong_form(keyword, at)),
+            Pending::Nothing | Pending::Ignored => Ok(Emits::none()),
+        }
+    }
+
+    #[tactic(auto, using(crate::proofs::Hanging::pending_literal))]
+    fn take_string(
+        &mut self,
+        alloc: Global,
+        spare: &mut Spare,
+        text: &[u8],
+    ) -> Result<Emits, FrameStop>
+        ensures { Goes result (spec.take_value (spec.given_text text.now) self.old)
+            self.old self.new }
+    {
+        let emits = self.hang_text(alloc, spare, text)?;
+        self.entries.property = true;
+        Ok(emits)
+    }
+
+    fn take_value(
+        &mut self,
+        alloc: Global,
+        spare: &mut Spare,
+        given: Given,
+    ) -> Result<Emits, FrameStop>
         ensures { Goes result (spec.take_value given self.old) self.old self.new }
     {
         match given {
             Given::Valued(valued) => {
-                let emits = self.hang_value(alloc, valued)?;
+                let emits = self.hang_value(alloc, spare, valued)?;
                 self.entries.property = true;
                 Ok(emits)
             }
@@ -125,34 +170,45 @@ impl Node {
     }
 
     #[tactic(auto, using(crate::proofs::Hanging::pending_none, crate::proofs::Hanging::pending_literal))]
-    fn hang_value(&self, alloc: Global, valued: Valued) -> Result<Emits, NoMemory>
+    fn hang_value(
+        &self,
+        alloc: Global,
+        spare: &mut Spare,
+        valued: Valued,
+    ) -> Result<Emits, NoMemory>
         ensures { IfOk result (λ quads. quads
             ≡ spec.hang_pending self.now (term_of_value (spec.as_value valued))) }
     {
         match valued {
             Valued::Reference(name) => {
                 let mut object = term_of_text(alloc, name)?;
-                self.hang_from(alloc, &mut object)
+                self.hang_from(alloc, spare, &mut object)
             }
-            Valued::Literal(lit) => self.hang(alloc, Term::Literal(lit)),
+            Valued::Literal(lit) => self.hang(alloc, spare, Term::Literal(lit)),
             Valued::LeftOut => Ok(Emits::none()),
         }
     }
 
     /// The quad with this literal, of the property whose value is open.
     #[tactic(auto, using(crate::proofs::Hanging::pending_none, crate::proofs::Hanging::pending_literal))]
-    pub(crate) fn hang_literal(&self, alloc: Global, lit: Option<Lit>) -> Result<Emits, NoMemory>
+    pub(crate) fn hang_literal(
+        &self,
+        alloc: Global,
+        spare: &mut Spare,
+        lit: Option<Lit>,
+    ) -> Result<Emits, NoMemory>
         ensures { IfOk result (λ quads. quads ≡ spec.hang_pending self.now (term_of_lit lit)) }
     {
         match lit {
             None => Ok(Emits::none()),
-            Some(lit) => self.hang(alloc, Term::Literal(lit)),
+            Some(lit) => self.hang(alloc, spare, Term::Literal(lit)),
         }
     }
 
     fn take_under(
         &mut self,
         alloc: Global,
+        spare: &mut Spare,
         keyword: Keyword,
         key_at: u64,
         fact: ValueFact,
@@ -162,7 +218,7 @@ impl Node {
     {
         let ValueFact { at, given } = fact;
         match given {
-            Given::Type(expanded) => self.take_type_under(alloc, keyword, key_at, expanded),
+            Given::Type(expanded) => self.take_type_under(alloc, spare, keyword, key_at, expanded),
             Given::Written(scalar) => self.take_written(keyword, key_at, at, scalar),
             Given::Valued(_) => Err(wrong_form(keyword, key_at)),
         }
@@ -171,6 +227,7 @@ impl Node {
     fn take_type_under(
         &mut self,
         alloc: Global,
+        spare: &mut Spare,
         keyword: Keyword,
         key_at: u64,
         expanded: Expanded,
@@ -179,7 +236,7 @@ impl Node {
             (spec.take_under keyword (Given.Type expanded) key_at at self.old) self.old self.new }
     {
         match keyword {
-            Keyword::Kind => self.take_type(alloc, expanded),
+            Keyword::Kind => self.take_type(alloc, spare, expanded),
             _ => Err(wrong_form(keyword, key_at)),
         }
     }
@@ -220,11 +277,16 @@ impl Node {
     }
 
     /// Says a type, or keeps it for a value object.
-    fn take_type(&mut self, alloc: Global, expanded: Expanded) -> Result<Emits, FrameStop>
+    fn take_type(
+        &mut self,
+        alloc: Global,
+        spare: &mut Spare,
+        expanded: Expanded,
+    ) -> Result<Emits, FrameStop>
         ensures { Goes result (spec.take_type self.old.valued expanded self.old) self.old self.new }
     {
         if !self.valued {
-            return Ok(self.hang_type(alloc, expanded)?);
+            return Ok(self.hang_type(alloc, spare, expanded)?);
         }
         self.parts.kinds = match self.parts.kinds {
             Kinds::Untyped => Kinds::One(expanded),
@@ -234,21 +296,33 @@ impl Node {
     }
 
     #[tactic(auto, using(crate::proofs::Hanging::hang_none))]
-    fn hang_type(&self, alloc: Global, expanded: Expanded) -> Result<Emits, NoMemory>
+    fn hang_type(
+        &self,
+        alloc: Global,
+        spare: &mut Spare,
+        expanded: Expanded,
+    ) -> Result<Emits, NoMemory>
         ensures { IfOk result (λ quads. quads
             ≡ spec.hang self.now rdf_type (spec.term_of_type expanded)) }
     {
         match expanded {
             Expanded::Null => Ok(Emits::none()),
-            Expanded::Keyword(text) | Expanded::Name(text) => self.hang_type_name(alloc, text),
+            Expanded::Keyword(text) | Expanded::Name(text) => self.hang_type_name(
+                alloc, spare, text,
+            ),
         }
     }
 
-    fn hang_type_name(&self, alloc: Global, name: Text) -> Result<Emits, NoMemory>
+    fn hang_type_name(
+        &self,
+        alloc: Global,
+        spare: &mut Spare,
+        name: Text,
+    ) -> Result<Emits, NoMemory>
         ensures { IfOk result (λ quads. quads ≡ spec.hang self.now rdf_type (term_of_text name)) }
     {
         let mut object = term_of_text(alloc, name)?;
-        self.say(alloc, rdf_type(), &mut object)
+        self.say(alloc, spare, rdf_type(), &mut object)
     }
 
     /// Keeps the language of a value object.

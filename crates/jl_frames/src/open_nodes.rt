@@ -8,6 +8,7 @@ ghost use Rattle.jl_frames.specs.Nodes as spec;
 use super::emits::Emits;
 use super::facts::{KeyFact, ValueFact};
 use super::nodes::{Node, Pending};
+use super::spares::Spare;
 use super::states::FrameStop;
 use jl_model::{Fault, NoMemory};
 use std::alloc::Global;
@@ -52,6 +53,7 @@ impl OpenNode {
     pub(crate) fn hang_on(
         &mut self,
         alloc: Global,
+        spare: &mut Spare,
         outer: Option<&OpenNode>,
     ) -> Result<Emits, NoMemory>
         ensures ok { IfOk result (λ quads. quads
@@ -60,7 +62,9 @@ impl OpenNode {
     {
         match outer {
             None => Ok(Emits::none()),
-            Some(outer) => outer.node().hang_from(alloc, &mut self.place.subject),
+            Some(outer) => outer
+                .node()
+                .hang_from(alloc, spare, &mut self.place.subject),
         }
     }
 
@@ -74,10 +78,30 @@ impl OpenNode {
 
     /// Takes a scalar as the value of the key read last, or in an array there.
     #[inline(always)]
-    pub fn take_scalar(&mut self, alloc: Global, fact: ValueFact) -> Result<Emits, FrameStop>
+    pub(crate) fn take_scalar(
+        &mut self,
+        alloc: Global,
+        spare: &mut Spare,
+        fact: ValueFact,
+    ) -> Result<Emits, FrameStop>
         ensures { Goes result (spec.take_scalar fact self.old) self.old self.new }
     {
-        self.place.take_scalar(alloc, fact)
+        self.place.take_scalar(alloc, spare, fact)
+    }
+
+    /// Takes a string as the value of a property, or in an array there.
+    #[inline(always)]
+    pub(crate) fn take_text(
+        &mut self,
+        alloc: Global,
+        spare: &mut Spare,
+        at: u64,
+        text: &[u8],
+    ) -> Result<Emits, FrameStop>
+        ensures { Goes result
+            (spec.take_scalar (spec.text_fact at text.now) self.old) self.old self.new }
+    {
+        self.place.take_text(alloc, spare, at, text)
     }
 
     /// An array of types has opened: a value object has no type then.

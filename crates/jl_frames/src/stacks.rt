@@ -2,12 +2,14 @@
 ghost use Rattle.std.specs.Prelude.{◌≡◌, true, false, Ok, Err, None, Some, IfOk, IfErr, IfSome, IsErr};
 ghost use Rattle.jl_frames.specs.Answers.{AnswersAgain, HasCause, IsBuilt, IsRefusal, after_stop, is_built_key};
 ghost use Rattle.jl_frames.specs.Machine as spec;
+ghost use Rattle.jl_frames.specs.Nodes.{text_fact};
 ghost use Rattle.jl_frames.specs.ReadAs.{read_as};
 
 use super::emits::Emits;
 use super::facts::{Frame, KeyFact, ValueFact};
 use super::opens::Opens;
 use super::reads::ReadAs;
+use super::spares::Spare;
 use super::states::{FrameStop, StackState};
 use std::alloc::Global;
 use std::marker::Model;
@@ -19,6 +21,8 @@ use std::marker::Model;
 #[derive(Debug, Drop)]
 pub struct Stack {
     state: StackState,
+    /// Memory for what comes next.
+    spare: Spare,
 }
 
 impl Model for Stack {
@@ -41,6 +45,7 @@ impl Stack {
                 stopped: None,
                 short: false,
             },
+            spare: Spare::none(),
         }
     }
 
@@ -49,7 +54,10 @@ impl Stack {
     pub fn from_state(state: StackState) -> Option<Stack>
         ensures { result ≡ Some state }
     {
-        Some(Stack { state })
+        Some(Stack {
+            state,
+            spare: Spare::none(),
+        })
     }
 
     /// All that it keeps.
@@ -111,8 +119,33 @@ impl Stack {
         if let Some(stop) = self.state.again() {
             return Err(stop);
         }
-        let given = self.state.on_scalar(alloc, value);
+        let given = self.state.on_scalar(alloc, &mut self.spare, value);
         self.state.told(given)
+    }
+
+    /// A string at this place, where the value of a property is read.
+    #[tactic(auto, unfolding(crate::specs::Machine::scalar))]
+    pub fn text(&mut self, alloc: Global, at: u64, text: &[u8]) -> Result<Emits, FrameStop>
+        ensures goes { IfOk result (λ quads.
+            spec.scalar (text_fact at text.now) self.old ≡ Ok (quads, self.new)) }
+        ensures stops { IfErr result (λ stop.
+            HasCause stop (spec.scalar (text_fact at text.now) self.old)) }
+        ensures after { IfErr result (λ stop. self.new ≡ after_stop stop self.old) }
+        ensures again { AnswersAgain self.old result self.new }
+    {
+        if let Some(stop) = self.state.again() {
+            return Err(stop);
+        }
+        let given = self.state.on_text(alloc, &mut self.spare, at, text);
+        self.state.told(given)
+    }
+
+    /// Takes back the quads of a fact once they have been put: their memory serves again.
+    #[inline(always)]
+    pub fn keep(&mut self, emits: Emits)
+        ensures { self.new ≡ self.old }
+    {
+        self.spare.keep(emits.into_room());
     }
 
     /// The innermost container closes.
@@ -126,7 +159,7 @@ impl Stack {
         if let Some(stop) = self.state.again() {
             return Err(stop);
         }
-        let closed = self.state.on_close(alloc);
+        let closed = self.state.on_close(alloc, &mut self.spare);
         self.state.told(closed)
     }
 }

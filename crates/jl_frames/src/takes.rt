@@ -2,9 +2,11 @@
 ghost use Rattle.std.specs.Prelude.{◌≡◌, IfErr};
 ghost use Rattle.jl_frames.specs.Answers.{Goes, IsLive, KeepsOthers, IsRefusal};
 ghost use Rattle.jl_frames.specs.Machine as spec;
+ghost use Rattle.jl_frames.specs.Nodes.{text_fact};
 
 use super::emits::Emits;
 use super::facts::{KeyFact, ValueFact};
+use super::spares::Spare;
 use super::states::{FrameStop, StackState};
 use std::alloc::Global;
 
@@ -29,25 +31,73 @@ impl StackState {
     }
 
     /// A scalar, as the value of a key or in an array.
-    pub(crate) fn on_scalar(&mut self, alloc: Global, fact: ValueFact) -> Result<Emits, FrameStop>
+    pub(crate) fn on_scalar(
+        &mut self,
+        alloc: Global,
+        spare: &mut Spare,
+        fact: ValueFact,
+    ) -> Result<Emits, FrameStop>
         requires live { IsLive self.old }
         ensures { Goes result (spec.on_scalar fact self.old.node self.old.opens) self.old self.new }
     {
         if self.opens.is_in_dropped() {
             return Ok(Emits::none());
         }
-        let emits = self.take_scalar(alloc, fact)?;
+        let emits = self.take_scalar(alloc, spare, fact)?;
         self.complete();
         Ok(emits)
     }
 
-    fn take_scalar(&mut self, alloc: Global, fact: ValueFact) -> Result<Emits, FrameStop>
+    fn take_scalar(
+        &mut self,
+        alloc: Global,
+        spare: &mut Spare,
+        fact: ValueFact,
+    ) -> Result<Emits, FrameStop>
         ensures goes { Goes result (spec.all_take fact self.old.node) self.old.node self.new.node }
         ensures others { KeepsOthers self.old self.new }
     {
         match &mut self.node {
             None => Ok(Emits::none()),
-            Some(node) => node.take_scalar(alloc, fact),
+            Some(node) => node.take_scalar(alloc, spare, fact),
+        }
+    }
+
+    /// A string, as the value of a property or in an array there.
+    pub(crate) fn on_text(
+        &mut self,
+        alloc: Global,
+        spare: &mut Spare,
+        at: u64,
+        text: &[u8],
+    ) -> Result<Emits, FrameStop>
+        requires live { IsLive self.old }
+        ensures { Goes result
+            (spec.on_scalar (text_fact at text.now) self.old.node self.old.opens)
+            self.old self.new }
+    {
+        if self.opens.is_in_dropped() {
+            return Ok(Emits::none());
+        }
+        let emits = self.take_text(alloc, spare, at, text)?;
+        self.complete();
+        Ok(emits)
+    }
+
+    fn take_text(
+        &mut self,
+        alloc: Global,
+        spare: &mut Spare,
+        at: u64,
+        text: &[u8],
+    ) -> Result<Emits, FrameStop>
+        ensures goes { Goes result
+            (spec.all_take (text_fact at text.now) self.old.node) self.old.node self.new.node }
+        ensures others { KeepsOthers self.old self.new }
+    {
+        match &mut self.node {
+            None => Ok(Emits::none()),
+            Some(node) => node.take_text(alloc, spare, at, text),
         }
     }
 

@@ -78,9 +78,9 @@ with_object q object = record q { object = object }
 abbrev pub with_graph : Parts → Option Term → Parts
 with_graph q graph = record q { graph = graph }
 
--- a part is set where it is well-formed; else the quad stays as it was
+-- a part is set where it is well-formed, as the quad then is; else the quad stays as it was
 abbrev pub Sets : Bool → Type 0 → Parts → Parts → Parts → Type 0
-Sets true IsFormed set old new = IsFormed × (new ≡ set)
+Sets true IsFormed set old new = AreWellFormed set × (new ≡ set)
 Sets false IsFormed set old new = (IsFormed → ⊥) × (new ≡ old)
 
 -- the same of a call that may take memory
