@@ -24,6 +24,9 @@ mod PlainRuns
 mod AsciiFronts
 mod TextLanes
 mod LastOpens
+mod FewNames
+mod OpenStores
+mod NameRows
 mod BlankRuns
 mod NextTokens
 pub mod OneTree

@@ -3,6 +3,7 @@ pub mod NumberMachine
 pub mod StringMachine
 pub mod Machine
 pub mod OpenLists
+pub mod NameStacks
 pub mod Left
 pub mod Stands
 pub mod Lexed

@@ -4,16 +4,19 @@
 mod kinds;
 mod lexers;
 mod moves;
+mod name_stacks;
 mod names;
 mod nexts;
 mod numbers;
 mod opens;
 mod readings;
 mod runs;
+mod shapes;
 mod skips;
 mod states;
 mod steps;
 mod strings;
+mod within;
 mod words;
 
 pub use jl_model::Token;
@@ -24,6 +27,7 @@ pub use names::Names;
 pub use numbers::InNumber;
 pub use opens::{Open, Opens};
 pub use readings::{Reading, Spot};
+pub use shapes::Shape;
 pub use states::LexState;
 pub use steps::{LexStop, Next, Sign, Signs, Step};
 pub use strings::InString;

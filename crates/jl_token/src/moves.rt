@@ -9,13 +9,12 @@ ghost use Rattle.jl_token.specs.StringMachine as string;
 ghost use Rattle.jl_token.specs.Left.{FormedAt};
 ghost use Rattle.jl_token.specs.Lexed.{HasNoText, HasOneText};
 ghost use Rattle.jl_token.specs.Moves.{MovesBy, Moves, stop_of};
-ghost use Rattle.jl_token.specs.OpenLists.{IsInObject};
+ghost use Rattle.jl_token.specs.OpenLists.{IsInObject, empty_of};
 
 use crate::kinds::{Kind, kind_of};
-use crate::names::Names;
 use crate::numbers::InNumber;
-use crate::opens::Open;
 use crate::readings::{Reading, Spot};
+use crate::shapes::Shape;
 use crate::steps::{LexStop, Sign, Signs};
 use crate::strings::{InString, StringStep};
 use crate::words::InWord;
@@ -81,15 +80,15 @@ impl Reading {
     }
 
     /// A container opens at the byte.
-    fn open(&mut self, sign: Sign, spot: Spot, container: Open) -> Result<Sign, Halt>
+    fn open(&mut self, sign: Sign, spot: Spot, shape: Shape) -> Result<Sign, Halt>
         requires room { self.old.at < 2 ^ 63 }
-        requires sign { sign ≡ machine.opening container }
-        ensures { MovesBy result self.old self.new (machine.opened 256 self.old (machine.opening_token container self.old.at) spot container) }
+        requires sign { sign ≡ machine.opening (empty_of shape) }
+        ensures { MovesBy result self.old self.new (machine.opened 256 self.old (machine.opening_token (empty_of shape) self.old.at) spot (empty_of shape)) }
     {
         if self.within.len() >= DEPTH {
             return Err(Halt::AtByte(Code::TooDeep));
         }
-        self.within.push(container)?;
+        self.within.open(shape)?;
         self.go_on(spot);
         Ok(sign)
     }
@@ -106,7 +105,7 @@ impl Reading {
 
     /// A value begins at the byte.
     #[inline(always)]
-    fn begin_value(&mut self, alloc: Global, byte: u8, kind: Kind) -> Result<Sign, Halt>
+    fn begin_value(&mut self, byte: u8, kind: Kind) -> Result<Sign, Halt>
         requires { self.old.at < 2 ^ 63 }
         ensures { MovesBy result self.old self.new (machine.value_begins 256 self.old byte kind) }
     {
@@ -130,19 +129,13 @@ impl Reading {
                 self.begin_token(Spot::InWord(InWord::F));
                 Ok(Sign::Nothing)
             }
-            Kind::OpenArray => self.open(Sign::OpenArray, Spot::FirstItem, Open::Array),
-            Kind::OpenObject => {
-                self.open(
-                    Sign::OpenObject,
-                    Spot::FirstKey,
-                    Open::Object(Names::empty(alloc)),
-                )
-            }
+            Kind::OpenArray => self.open(Sign::OpenArray, Spot::FirstItem, Shape::Array),
+            Kind::OpenObject => self.open(Sign::OpenObject, Spot::FirstKey, Shape::Object),
             _ => Err(Halt::AtByte(Code::Syntax)),
         }
     }
 
-    fn at_value(&mut self, alloc: Global, byte: u8, kind: Kind) -> Result<Sign, Halt>
+    fn at_value(&mut self, byte: u8, kind: Kind) -> Result<Sign, Halt>
         requires { self.old.at < 2 ^ 63 }
         ensures { MovesBy result self.old self.new (machine.at_value 256 self.old byte kind) }
     {
@@ -151,7 +144,7 @@ impl Reading {
                 self.go_on(Spot::Value);
                 Ok(Sign::Nothing)
             }
-            _ => self.begin_value(alloc, byte, kind),
+            _ => self.begin_value(byte, kind),
         }
     }
 
@@ -160,12 +153,12 @@ impl Reading {
         ensures moves { MovesBy result self.old self.new (machine.array_closes self.old self.old.within) }
         ensures plain { IfOk result HasNoText }
     {
-        match self.within.pop() {
-            Some(Open::Array) => {
+        match self.within.close() {
+            Some(Shape::Array) => {
                 self.go_on(Spot::After);
                 Ok(Sign::CloseArray)
             }
-            Some(Open::Object(_)) => Err(Halt::AtByte(Code::Syntax)),
+            Some(Shape::Object) => Err(Halt::AtByte(Code::Syntax)),
             None => Err(Halt::AtByte(Code::Syntax)),
         }
     }
@@ -175,17 +168,17 @@ impl Reading {
         ensures moves { MovesBy result self.old self.new (machine.object_closes self.old self.old.within) }
         ensures plain { IfOk result HasNoText }
     {
-        match self.within.pop() {
-            Some(Open::Object(_)) => {
+        match self.within.close() {
+            Some(Shape::Object) => {
                 self.go_on(Spot::After);
                 Ok(Sign::CloseObject)
             }
-            Some(Open::Array) => Err(Halt::AtByte(Code::Syntax)),
+            Some(Shape::Array) => Err(Halt::AtByte(Code::Syntax)),
             None => Err(Halt::AtByte(Code::Syntax)),
         }
     }
 
-    fn at_first_item(&mut self, alloc: Global, byte: u8, kind: Kind) -> Result<Sign, Halt>
+    fn at_first_item(&mut self, byte: u8, kind: Kind) -> Result<Sign, Halt>
         requires { self.old.at < 2 ^ 63 }
         ensures { MovesBy result self.old self.new (machine.at_first_item 256 self.old byte kind) }
     {
@@ -195,7 +188,7 @@ impl Reading {
                 Ok(Sign::Nothing)
             }
             Kind::CloseArray => self.close_array(),
-            _ => self.begin_value(alloc, byte, kind),
+            _ => self.begin_value(byte, kind),
         }
     }
 
@@ -257,11 +250,11 @@ impl Reading {
         ensures plain { IfOk result HasNoText }
     {
         match self.within.innermost() {
-            Some(Open::Array) => {
+            Some(Shape::Array) => {
                 self.go_on(Spot::Value);
                 Ok(Sign::Nothing)
             }
-            Some(Open::Object(_)) => {
+            Some(Shape::Object) => {
                 self.go_on(Spot::Key);
                 Ok(Sign::Nothing)
             }
@@ -364,10 +357,7 @@ impl Reading {
         requires object { IsInObject self.old.within }
         ensures { MovesBy result self.old self.new (machine.key_ends true self.old self.old.within) }
     {
-        let Ok(name) = Vec::from_slice(alloc, self.part.bytes()) else {
-            return Err(Halt::NoMemory);
-        };
-        if !self.within.add_name(name)? {
+        if !self.within.add_name(alloc, self.part.bytes())? {
             return Err(Halt::AtToken(Code::DuplicateKey));
         }
         self.go_on(Spot::Colon);
@@ -400,8 +390,8 @@ impl Reading {
         match self.spot {
             Spot::InText(place) => self.in_text(place, byte),
             Spot::InKey(place) => self.in_key(alloc, place, byte),
-            Spot::Value => self.at_value(alloc, byte, kind_of(byte)),
-            Spot::FirstItem => self.at_first_item(alloc, byte, kind_of(byte)),
+            Spot::Value => self.at_value(byte, kind_of(byte)),
+            Spot::FirstItem => self.at_first_item(byte, kind_of(byte)),
             Spot::FirstKey => self.at_first_key(kind_of(byte)),
             Spot::Key => self.at_key(kind_of(byte)),
             Spot::Colon => self.at_colon(kind_of(byte)),

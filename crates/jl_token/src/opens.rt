@@ -1,8 +1,12 @@
 //! The containers that are open round the next byte.
-ghost use Rattle.std.specs.Prelude.{◌≡◌, ◌≤◌, ◌-◌, ◌^◌, ◌↔◌, IsTrue, min, sum_by, [], ◌∷◌, List, IfOk, OnOk, OnErr, MatchOption, length, nat_eq, reverse};
-ghost use Rattle.jl_token.specs.OpenLists.{open_names_len, IsInArray, IsInObject, AddsName};
+ghost use Rattle.std.specs.Prelude.{◌≡◌, ℕ, ◌-◌, ◌^◌, ◌↔◌, IsTrue, min, sum_by, [], ◌∷◌, List, IfOk, OnOk, OnErr, MatchOption, length, nat_eq, reverse};
+ghost use Rattle.jl_token.specs.OpenLists.{open_names_len, empty_of, HasShape, IsInArray, IsInObject, AddsName};
+ghost use Rattle.jl_token.specs.NameStacks.{opens_of, AreCounted, within_len};
 
+use crate::name_stacks::NameStack;
 use crate::names::Names;
+use crate::shapes::Shape;
+use crate::within::Within;
 use jl_model::NoMemory;
 use std::alloc::Global;
 use std::marker::Model;
@@ -15,18 +19,24 @@ pub enum Open {
 }
 
 /// The open containers, which contracts see as a list, the innermost first.
+///
+/// The names of all objects that have few stand in one buffer.
 #[derive(Debug, Drop)]
 pub struct Opens {
-    list: Vec<Open>,
+    list: Vec<Within>,
+    names: NameStack,
 }
 
 impl Model for Opens {
     ghost use Rattle.std.specs.Prelude.{List, reverse};
     ghost use Rattle.jl_token.specs.declared.opens.Open.{Open};
+    ghost use Rattle.jl_token.specs.NameStacks.{opens_of, AreCounted};
 
     ghost Value = { List Open };
 
-    ghost view = { λ opens. reverse opens.list.items };
+    ghost view = { λ opens. opens_of (reverse opens.list.items) opens.names };
+
+    ghost invariant = { λ opens. AreCounted (reverse opens.list.items) opens.names };
 }
 
 impl Opens {
@@ -36,10 +46,12 @@ impl Opens {
     {
         Opens {
             list: Vec::new(alloc),
+            names: NameStack::empty(alloc),
         }
     }
 
     /// How many are open.
+    #[tactic(auto, using(crate::proofs::OpenStores::count_opens))]
     pub fn len(&self) -> usize
         ensures { result ≡ length self.now }
     {
@@ -47,6 +59,7 @@ impl Opens {
     }
 
     /// Whether none is open.
+    #[tactic(auto, using(crate::proofs::OpenStores::count_opens))]
     pub fn is_empty(&self) -> bool
         ensures { result ≡ nat_eq (length self.now) 0 }
     {
@@ -58,33 +71,61 @@ impl Opens {
         ensures ok { OnOk result (self.new ≡ container ∷ self.old) }
         ensures err { OnErr result (self.new ≡ self.old) }
     {
-        match self.list.push(container) {
+        let within = match container {
+            Open::Array => Within::Array,
+            Open::Object(names) => Within::Many(names),
+        };
+        match self.list.push(within) {
             Ok(()) => Ok(()),
             Err(_) => Err(NoMemory),
         }
     }
 
-    /// Closes the innermost one.
-    pub fn pop(&mut self) -> Option<Open>
-        ensures { MatchOption result (self.old ≡ []) (λ container. self.old ≡ container ∷ self.new) }
+    /// Opens a container of this shape, which has nothing yet, inside the others.
+    pub fn open(&mut self, shape: Shape) -> Result<(), NoMemory>
+        ensures ok { OnOk result (self.new ≡ empty_of shape ∷ self.old) }
+        ensures err { OnErr result (self.new ≡ self.old) }
     {
-        self.list.pop()
+        let within = match shape {
+            Shape::Array => Within::Array,
+            Shape::Object => Within::Few { count: 0, len: 0 },
+        };
+        match self.list.push(within) {
+            Ok(()) => Ok(()),
+            Err(_) => Err(NoMemory),
+        }
+    }
+
+    /// Closes the innermost one, and says what it was.
+    pub fn close(&mut self) -> Option<Shape>
+        ensures { MatchOption result (self.old ≡ []) (λ shape. HasShape self.old shape self.new) }
+    {
+        match self.list.pop() {
+            None => None,
+            Some(Within::Array) => Some(Shape::Array),
+            Some(Within::Many(_)) => Some(Shape::Object),
+            Some(Within::Few { count, .. }) => {
+                self.names.drop_last(count);
+                Some(Shape::Object)
+            }
+        }
     }
 
     /// Adds a name to those of the innermost object, unless it is among them, and says whether it was
     /// new.
-    pub(crate) fn add_name(&mut self, name: Vec<u8>) -> Result<bool, NoMemory>
+    #[inline(always)]
+    pub(crate) fn add_name(&mut self, alloc: Global, name: &[u8]) -> Result<bool, NoMemory>
         requires { IsInObject self.old }
-        ensures { IfOk result (λ added. AddsName self.old self.new name.items added) }
+        ensures { IfOk result (λ added. AddsName self.old self.new name.now added) }
     {
-        add_to_last(&mut self.list, name)
+        add_to_last(&mut self.list, &mut self.names, alloc, name)
     }
 
-    /// The innermost one, lent.
-    pub fn innermost(&self) -> Option<&Open>
-        ensures { MatchOption result (self.now ≡ []) (λ container. (below : List Open) × (self.now ≡ container.now ∷ below)) }
+    /// What the innermost one is.
+    pub fn innermost(&self) -> Option<Shape>
+        ensures { MatchOption result (self.now ≡ []) (λ shape. (below : List Open) × HasShape self.now shape below) }
     {
-        self.list.last()
+        shape_of_last(self.list.as_slice())
     }
 
     /// Whether the innermost one is an array.
@@ -92,8 +133,8 @@ impl Opens {
         ensures { IsTrue result ↔ IsInArray self.now }
     {
         match self.innermost() {
-            Some(Open::Array) => true,
-            Some(Open::Object(_)) => false,
+            Some(Shape::Array) => true,
+            Some(Shape::Object) => false,
             None => false,
         }
     }
@@ -103,14 +144,14 @@ impl Opens {
         ensures { IsTrue result ↔ IsInObject self.now }
     {
         match self.innermost() {
-            Some(Open::Array) => false,
-            Some(Open::Object(_)) => true,
+            Some(Shape::Array) => false,
+            Some(Shape::Object) => true,
             None => false,
         }
     }
 
     /// How many bytes the names of the open objects have in all, or 2^64 - 1 where they have more.
-    #[tactic(auto, using(crate::proofs::ReversedSums::sum_by_reverse))]
+    #[tactic(auto, using(crate::proofs::ReversedSums::sum_by_reverse, crate::proofs::OpenStores::sum_opens))]
     pub fn names_len(&self) -> u64
         ensures { result ≡ min (sum_by open_names_len self.now) (2 ^ 64 - 1) }
     {
@@ -118,43 +159,41 @@ impl Opens {
     }
 }
 
-impl Open {
-    /// Adds a name to those of an object, unless it is among them, and says whether it was new.
-    fn add_name(&mut self, name: Vec<u8>) -> Result<bool, NoMemory>
-        requires { IsInObject (self.old ∷ []) }
-        ensures { IfOk result (λ added. AddsName (self.old ∷ []) (self.new ∷ []) name.items added) }
-    {
-        match self {
-            Open::Array => unreachable!(),
-            Open::Object(names) => names.add(name),
-        }
-    }
-
-    /// How many bytes its names have in all, or 2^64 - 1 where they have more.
-    fn names_len(&self) -> u64
-        ensures { result ≡ min (open_names_len self.now) (2 ^ 64 - 1) }
-    {
-        match self {
-            Open::Array => 0,
-            Open::Object(names) => names.len(),
-        }
+/// What the last one is.
+#[inline(always)]
+fn shape_of_last(list: &[Within]) -> Option<Shape>
+    ensures { (names : List (List ℕ)) → MatchOption result (opens_of (reverse list.now) names ≡ []) (λ shape. (below : List Open) × HasShape (opens_of (reverse list.now) names) shape below) }
+{
+    let (last, _) = list.split_last()?;
+    match last {
+        Within::Array => Some(Shape::Array),
+        Within::Few { .. } => Some(Shape::Object),
+        Within::Many(_) => Some(Shape::Object),
     }
 }
 
 /// What `Opens::add_name` does, where the innermost container comes last.
-#[tactic(auto, using(crate::proofs::LastOpens::adds_last))]
-fn add_to_last(list: &mut Vec<Open>, name: Vec<u8>) -> Result<bool, NoMemory>
-    requires { IsInObject (reverse list.old.items) }
-    ensures { IfOk result (λ added. AddsName (reverse list.old.items) (reverse list.new.items) name.items added) }
+#[tactic(auto, using(crate::proofs::LastOpens::adds_last, crate::proofs::LastOpens::counts_last))]
+#[inline(always)]
+fn add_to_last(
+    list: &mut Vec<Within>,
+    names: &mut NameStack,
+    alloc: Global,
+    name: &[u8],
+) -> Result<bool, NoMemory>
+    requires object { IsInObject (opens_of (reverse list.old.items) names.old) }
+    requires counted { AreCounted (reverse list.old.items) names.old }
+    ensures added { IfOk result (λ added. AddsName (opens_of (reverse list.old.items) names.old) (opens_of (reverse list.new.items) names.new) name.now added) }
+    ensures counted { AreCounted (reverse list.new.items) names.new }
 {
     match list.last_mut() {
-        Some(container) => container.add_name(name),
+        Some(container) => container.add_name(names, alloc, name),
         None => unreachable!(),
     }
 }
 
-fn names_len_of(list: &[Open]) -> u64
-    ensures { result ≡ min (sum_by open_names_len list.now) (2 ^ 64 - 1) }
+fn names_len_of(list: &[Within]) -> u64
+    ensures { result ≡ min (sum_by within_len list.now) (2 ^ 64 - 1) }
 {
     let mut sum: u64 = 0;
     for container in list {
