@@ -1,11 +1,10 @@
 -- A name that comes to an object whose names stand in the buffer.
-use Rattle.std.proofs.Common.{◌≡◌, ℕ, suc, ◌+◌, ◌-◌, ◌^◌, min, Bool, true, false, not, ◌||◌, List, [], ◌∷◌, length, take, drop, refl, sym, ap, subst, ◌∙◌, arith}
+use Rattle.std.proofs.Common.{◌≡◌, ℕ, suc, ◌+◌, ◌-◌, ◌^◌, min, true, false, not, ◌||◌, List, [], ◌∷◌, length, take, refl, sym, ap, subst, ◌∙◌, arith}
 use Rattle.std.proofs.lemmas.Bool.{false≢true}
 use Rattle.std.specs.List.{list_any}
 use Rattle.std.specs.Str.{bytes_eq}
-use Rattle.jl_token.specs.declared.within.Within.{Within}
 use Rattle.jl_token.specs.declared.within.Within.TheVariants as withins
-use Rattle.jl_token.specs.Names.{with_name, names_len}
+use Rattle.jl_token.specs.Names.{names_len}
 use Rattle.jl_token.specs.NameStacks.{set_of, Adds, StaysCounted}
 use Rattle.jl_token.proofs.NamesAmong.{among-with_name, names_len-with_name}
 
