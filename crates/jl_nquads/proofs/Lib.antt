@@ -1,7 +1,6 @@
 pub mod EscapeRuns
 pub mod Joins
 pub mod Telling
-pub mod Triples
 pub mod SpotRows
 pub mod SpotSteps
 pub mod Texts

@@ -1,6 +1,5 @@
 pub mod Endings
 pub mod Escapes
-pub mod Forms
 pub mod LineOuts
 pub mod Spots
 pub mod Nexts

@@ -1,5 +1,5 @@
 //! Runs of bytes that a string writes as they are. Many bytes are looked at at once.
-ghost use Rattle.std.specs.Prelude.{◌≡◌, ◌≤◌, true, flat_map, length, position, take};
+ghost use Rattle.std.specs.Prelude.{◌≡◌, ◌<◌, ◌≤◌, true, flat_map, length, position, take};
 ghost use Rattle.jl_model.specs.Lines.{escaped};
 ghost use Rattle.jl_nquads.specs.Escapes.{needs_escape, plain_len_of};
 
@@ -15,9 +15,21 @@ pub(crate) fn has_no_escape(text: &[u8]) -> bool
 }
 
 /// How many bytes at the front are written as they are: those before the first that has to be
-/// escaped.
+/// escaped. The first byte is looked at first, since escapes often follow one another.
+pub(crate) fn run_len(text: &[u8]) -> usize
+    requires { 0 < length text.now }
+    ensures within { result ≤ length text.now }
+    ensures plain { flat_map escaped (take result text.now) ≡ take result text.now }
+{
+    if is_escaped(text[0]) {
+        0
+    } else {
+        plain_len(text)
+    }
+}
+
 #[tactic(auto, using(crate::proofs::EscapeRuns::run_within))]
-pub(crate) fn plain_len(text: &[u8]) -> usize
+fn plain_len(text: &[u8]) -> usize
     ensures within { result ≤ length text.now }
     ensures plain { flat_map escaped (take result text.now) ≡ take result text.now }
 {

@@ -6,7 +6,6 @@ mod code_points;
 mod comments;
 mod escaped;
 mod escapes;
-mod forms;
 mod framed;
 mod framed_tokens;
 mod halts;

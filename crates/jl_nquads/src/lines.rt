@@ -1,5 +1,5 @@
-//! The line of a quad, put to an out in few calls. No call here takes memory.
-ghost use Rattle.std.specs.Prelude.{◌≡◌, ◌<◌, ◌≤◌, length, take, OnOk, OnErr, IfOk, IsErr, None, true, [], flat_map, position};
+//! The line of a quad, put to an out text by text. No call here takes memory.
+ghost use Rattle.std.specs.Prelude.{◌≡◌, ◌<◌, ◌≤◌, ◌++◌, length, take, OnOk, OnErr, IfOk, IsErr, None, flat_map};
 ghost use Rattle.std.specs.Option.{option_copied};
 ghost use Rattle.std.specs.Str.{bytes_eq};
 ghost use Rattle.jl_model.specs.Causes.{HasCause};
@@ -7,12 +7,10 @@ ghost use Rattle.jl_model.specs.Lines.{line, spaced, iri_text, term_text, lit_te
 ghost use Rattle.jl_model.specs.Parts.{xsd_string, parts_of};
 ghost use Rattle.jl_io.specs.Outside.{appended};
 ghost use Rattle.jl_nquads.specs.Endings.{ending};
-ghost use Rattle.jl_nquads.specs.Forms.{framed, typed, triple_line};
 ghost use Rattle.jl_io.specs.Puts.{PutsFront};
 
-use super::escapes::plain_len;
-use super::forms::{Form, Sign, form_of, is_xsd_string};
-use jl_io::{ByteOut, Failed, put_all, put_parts};
+use super::escapes::{has_no_escape, run_len};
+use jl_io::{ByteOut, Failed, put_all};
 use jl_model::{Quad, Term, Text};
 
 /// Puts the line of the quad. After a failure a proper front of the line has been put.
@@ -26,125 +24,8 @@ pub fn write_line<B: ByteOut>(quad: &Quad, out: &mut B) -> Result<(), Failed>
     put_line(quad.subject(), predicate, quad.object(), quad.graph(), out)
 }
 
-/// Puts the line of these parts. A line in the default graph goes out at once, where the string of
-/// a literal has no escape and no language tag.
-fn put_line<B: ByteOut>(
-    subject: &Term,
-    predicate: &[u8],
-    object: &Term,
-    graph: Option<&Term>,
-    out: &mut B,
-) -> Result<(), Failed>
-    ensures put { OnOk result (B.written out.new ≡ appended (B.written out.old)
-        (line (parts_of subject.now predicate.now object.now (option_copied graph.entry)))) }
-    ensures cut { OnErr result (PutsFront (B.written out.old)
-        (line (parts_of subject.now predicate.now object.now (option_copied graph.entry)))
-        (B.written out.new)) }
-    ensures cause { HasCause (B.put_faults out.old) (B.put_faults out.new) (IsErr result) }
-    ensures beside { B.beside out.old out.new }
-{
-    match graph {
-        None => put_triple(subject, predicate, object, out),
-        Some(_) => put_terms(subject, predicate, object, graph, out),
-    }
-}
-
-/// Puts the line of these parts in the default graph.
-fn put_triple<B: ByteOut>(
-    subject: &Term,
-    predicate: &[u8],
-    object: &Term,
-    out: &mut B,
-) -> Result<(), Failed>
-    ensures put { OnOk result (B.written out.new ≡ appended (B.written out.old)
-        (line (parts_of subject.now predicate.now object.now None))) }
-    ensures cut { OnErr result (PutsFront (B.written out.old)
-        (line (parts_of subject.now predicate.now object.now None)) (B.written out.new)) }
-    ensures cause { HasCause (B.put_faults out.old) (B.put_faults out.new) (IsErr result) }
-    ensures beside { B.beside out.old out.new }
-{
-    match (form_of(subject), form_of(object)) {
-        (Form::Framed(sign, name), Form::Framed(object_sign, text)) => {
-            put_framed(sign, name, predicate, object_sign, text, out)
-        }
-        (Form::Framed(sign, name), Form::Typed(text, datatype)) => {
-            put_typed(sign, name, predicate, text, datatype, out)
-        }
-        _ => put_terms(subject, predicate, object, None, out),
-    }
-}
-
-/// Puts the line of a subject and an object that are texts between signs.
-#[tactic(auto, using(crate::proofs::Triples::framed_line))]
-fn put_framed<B: ByteOut>(
-    sign: Sign,
-    subject: &[u8],
-    predicate: &[u8],
-    object_sign: Sign,
-    object: &[u8],
-    out: &mut B,
-) -> Result<(), Failed>
-    ensures put { OnOk result (B.written out.new ≡ appended (B.written out.old)
-        (triple_line (framed sign subject.now) predicate.now (framed object_sign object.now))) }
-    ensures cut { OnErr result (PutsFront (B.written out.old)
-        (triple_line (framed sign subject.now) predicate.now (framed object_sign object.now))
-        (B.written out.new)) }
-    ensures cause { HasCause (B.put_faults out.old) (B.put_faults out.new) (IsErr result) }
-    ensures beside { B.beside out.old out.new }
-{
-    let between = sign.before_predicate();
-    let before = object_sign.before_object();
-    put_parts(
-        out,
-        &[
-            sign.open(),
-            subject,
-            between,
-            predicate,
-            before,
-            object,
-            object_sign.end(),
-        ],
-    )
-}
-
-/// Puts the line of a subject between signs and of a string with a datatype.
-#[tactic(auto, using(crate::proofs::Triples::typed_line))]
-fn put_typed<B: ByteOut>(
-    sign: Sign,
-    subject: &[u8],
-    predicate: &[u8],
-    text: &[u8],
-    datatype: &[u8],
-    out: &mut B,
-) -> Result<(), Failed>
-    ensures put { OnOk result (B.written out.new ≡ appended (B.written out.old)
-        (triple_line (framed sign subject.now) predicate.now (typed text.now datatype.now))) }
-    ensures cut { OnErr result (PutsFront (B.written out.old)
-        (triple_line (framed sign subject.now) predicate.now (typed text.now datatype.now))
-        (B.written out.new)) }
-    ensures cause { HasCause (B.put_faults out.old) (B.put_faults out.new) (IsErr result) }
-    ensures beside { B.beside out.old out.new }
-{
-    let between = sign.before_predicate();
-    put_parts(
-        out,
-        &[
-            sign.open(),
-            subject,
-            between,
-            predicate,
-            b"> \"",
-            text,
-            b"\"^^<",
-            datatype,
-            b"> .\n",
-        ],
-    )
-}
-
 /// Puts the line of these parts, term by term.
-fn put_terms<B: ByteOut>(
+fn put_line<B: ByteOut>(
     subject: &Term,
     predicate: &[u8],
     object: &Term,
@@ -167,6 +48,7 @@ fn put_terms<B: ByteOut>(
 }
 
 /// Puts a term and the space behind it.
+#[inline(always)]
 fn put_spaced<B: ByteOut>(term: &Term, out: &mut B) -> Result<(), Failed>
     ensures put { OnOk result (B.written out.new ≡ appended (B.written out.old)
         (spaced (term_text term.now))) }
@@ -177,11 +59,13 @@ fn put_spaced<B: ByteOut>(term: &Term, out: &mut B) -> Result<(), Failed>
 {
     match term {
         Term::Iri(iri) => put_spaced_iri(iri.bytes(), out),
-        Term::Blank(label) => put_parts(out, &[b"_:", label.bytes(), b" "]),
+        Term::Blank(label) => put_between(b"_:", label.bytes(), b" ", out),
         Term::Literal(lit) => put_lit(lit.text.bytes(), lit.datatype.bytes(), &lit.language, out),
     }
 }
 
+/// Puts an IRI in its brackets and the space behind it.
+#[inline(always)]
 fn put_spaced_iri<B: ByteOut>(iri: &[u8], out: &mut B) -> Result<(), Failed>
     ensures put { OnOk result (B.written out.new ≡ appended (B.written out.old)
         (spaced (iri_text iri.now))) }
@@ -190,9 +74,11 @@ fn put_spaced_iri<B: ByteOut>(iri: &[u8], out: &mut B) -> Result<(), Failed>
     ensures cause { HasCause (B.put_faults out.old) (B.put_faults out.new) (IsErr result) }
     ensures beside { B.beside out.old out.new }
 {
-    put_parts(out, &[b"<", iri, b"> "])
+    put_between(b"<", iri, b"> ", out)
 }
 
+/// Puts a graph's name and the space behind it, or nothing for the default graph.
+#[inline(always)]
 fn put_graph<B: ByteOut>(graph: Option<&Term>, out: &mut B) -> Result<(), Failed>
     ensures put { OnOk result (B.written out.new ≡ appended (B.written out.old)
         (graph_text (option_copied graph.entry))) }
@@ -232,11 +118,12 @@ fn put_lit<B: ByteOut>(
     ensures beside { B.beside out.old out.new }
 {
     put_all(out, b"\"")?;
-    put_escaped(text, out)?;
+    put_string(text, out)?;
     put_ending(datatype, language, out)
 }
 
 /// Puts what follows a literal's string: its closing quote, its language or datatype, and a space.
+#[inline(always)]
 fn put_ending<B: ByteOut>(
     datatype: &[u8],
     language: &Option<Text>,
@@ -250,11 +137,12 @@ fn put_ending<B: ByteOut>(
     ensures beside { B.beside out.old out.new }
 {
     match language {
-        Some(tag) => put_parts(out, &[b"\"@", tag.bytes(), b" "]),
+        Some(tag) => put_between(b"\"@", tag.bytes(), b" ", out),
         None => put_datatype(datatype, out),
     }
 }
 
+#[inline(always)]
 fn put_datatype<B: ByteOut>(datatype: &[u8], out: &mut B) -> Result<(), Failed>
     ensures put { OnOk result (B.written out.new ≡ appended (B.written out.old)
         (ending datatype.now None)) }
@@ -266,11 +154,48 @@ fn put_datatype<B: ByteOut>(datatype: &[u8], out: &mut B) -> Result<(), Failed>
     if is_xsd_string(datatype) {
         put_all(out, b"\" ")
     } else {
-        put_parts(out, &[b"\"^^<", datatype, b"> "])
+        put_between(b"\"^^<", datatype, b"> ", out)
     }
 }
 
-/// Puts a literal's string with its escapes.
+/// Puts a text between two others.
+#[inline(always)]
+fn put_between<B: ByteOut>(
+    front: &[u8],
+    text: &[u8],
+    back: &[u8],
+    out: &mut B,
+) -> Result<(), Failed>
+    ensures put { OnOk result (B.written out.new ≡ appended (B.written out.old)
+        (front.now ++ (text.now ++ back.now))) }
+    ensures cut { OnErr result (PutsFront (B.written out.old)
+        (front.now ++ (text.now ++ back.now)) (B.written out.new)) }
+    ensures cause { HasCause (B.put_faults out.old) (B.put_faults out.new) (IsErr result) }
+    ensures beside { B.beside out.old out.new }
+{
+    put_all(out, front)?;
+    put_all(out, text)?;
+    put_all(out, back)
+}
+
+/// Puts a literal's string with its escapes. Most strings have none.
+fn put_string<B: ByteOut>(text: &[u8], out: &mut B) -> Result<(), Failed>
+    ensures put { OnOk result (B.written out.new ≡ appended (B.written out.old)
+        (flat_map escaped text.now)) }
+    ensures cut { OnErr result (PutsFront (B.written out.old) (flat_map escaped text.now)
+        (B.written out.new)) }
+    ensures cause { HasCause (B.put_faults out.old) (B.put_faults out.new) (IsErr result) }
+    ensures beside { B.beside out.old out.new }
+{
+    if has_no_escape(text) {
+        put_all(out, text)
+    } else {
+        put_escaped(text, out)
+    }
+}
+
+/// Puts a string run by run, with its escapes.
+#[inline(never)]
 #[tactic(auto, using(crate::proofs::EscapeRuns::escaped_cut))]
 fn put_escaped<B: ByteOut>(text: &[u8], out: &mut B) -> Result<(), Failed>
     ensures put { OnOk result (B.written out.new ≡ appended (B.written out.old)
@@ -301,7 +226,7 @@ fn put_run<B: ByteOut>(text: &[u8], out: &mut B) -> Result<usize, Failed>
     ensures cause { HasCause (B.put_faults out.old) (B.put_faults out.new) (IsErr result) }
     ensures beside { B.beside out.old out.new }
 {
-    let run = plain_len(text);
+    let run = run_len(text);
     if run == 0 {
         put_escape(text[0], out)?;
         Ok(1)
@@ -324,4 +249,10 @@ fn put_escape<B: ByteOut>(byte: u8, out: &mut B) -> Result<(), Failed>
         b'\r' => put_all(out, b"\\r"),
         _ => put_all(out, &[byte]),
     }
+}
+
+fn is_xsd_string(datatype: &[u8]) -> bool
+    ensures { result ≡ bytes_eq datatype.now xsd_string }
+{
+    datatype == b"http://www.w3.org/2001/XMLSchema#string".as_slice()
 }

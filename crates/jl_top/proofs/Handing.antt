@@ -5,7 +5,7 @@ use Rattle.std.proofs.lemmas.List.Sums.{sum_by-append}
 use Rattle.std.proofs.Math.Seq.{drop-drop}
 use Rattle.jl_io.specs.Outside.{appended}
 use Rattle.jl_top.specs.declared.blocks.Block.{Block}
-use Rattle.jl_top.specs.Blocks.{HandsOn, held_of, is_line_feed, CountsLines}
+use Rattle.jl_top.specs.Blocks.{HandsOn, gathered_of, held_of, is_line_feed, CountsLines}
 use Rattle.jl_io.proofs.Fronts.{appended-appended, appended-nil, put_then}
 
 count_by-append : (xs ys : List ℕ) → count_by is_line_feed (xs ++ ys) ≡ count_by is_line_feed xs + count_by is_line_feed ys
@@ -49,11 +49,11 @@ pub held_split : (gathered : List ℕ) (handed n : ℕ) → drop handed gathered
 held_split gathered handed n = rw (← drop-drop n handed gathered) (sym (take-append-drop n (drop handed gathered)))
 
 -- some bytes were put and counted
-pub hands_some : (w0 w1 : Option (List ℕ)) (old new : Block) (n : ℕ) → new.gathered.items ≡ old.gathered.items → new.handed ≡ old.handed + n → w1 ≡ appended w0 (take n (held_of old))
+pub hands_some : (w0 w1 : Option (List ℕ)) (old new : Block) (n : ℕ) → gathered_of new ≡ gathered_of old → new.handed ≡ old.handed + n → w1 ≡ appended w0 (take n (held_of old))
     → new.lines ≡ min (old.lines + count_by is_line_feed (take n (held_of old))) (2 ^ 64 - 1) → HandsOn w0 w1 old new
 hands_some w0 w1 old new n same handed put lines =
-    let held : held_of new ≡ drop (old.handed + n) old.gathered.items = ap (λ k. drop k new.gathered.items) handed ∙ ap (λ t. drop (old.handed + n) t) same in
-    record { handed = take n (held_of old); put = put; held = held_split old.gathered.items old.handed n ∙ ap (λ t. take n (held_of old) ++ t) (sym held); lines = lines }
+    let held : held_of new ≡ drop (old.handed + n) (gathered_of old) = ap (λ k. drop k (gathered_of new)) handed ∙ ap (λ t. drop (old.handed + n) t) same in
+    record { handed = take n (held_of old); put = put; held = held_split (gathered_of old) old.handed n ∙ ap (λ t. take n (held_of old) ++ t) (sym held); lines = lines }
 
 -- the end of a block: it is emptied
 pub hands_emptied : (w0 w1 : Option (List ℕ)) (old full new : Block) → HandsOn w0 w1 old full → held_of full ≡ [] → held_of new ≡ [] → new.lines ≡ full.lines → HandsOn w0 w1 old new

@@ -1,5 +1,5 @@
 -- Output in blocks.
-use Rattle.std.specs.Prelude.{◌≡◌, ℕ, ◌+◌, ◌-◌, ◌^◌, ◌==◌, Bool, List, [], ◌++◌, min, drop, Option, IfSome, count_by}
+use Rattle.std.specs.Prelude.{◌≡◌, ℕ, ◌+◌, ◌-◌, ◌^◌, ◌==◌, Bool, List, [], ◌++◌, min, take, drop, Option, IfSome, count_by}
 use Rattle.jl_io.specs.Outside.{appended}
 use Rattle.jl_top.specs.declared.blocks.Block.{Block}
 
@@ -14,9 +14,13 @@ line_count bytes = min (count_by is_line_feed bytes) (2 ^ 64 - 1)
 abbrev pub CountsLines : Option (List ℕ) → ℕ → Type 0
 CountsLines put count = IfSome put (λ bytes. count ≡ line_count bytes)
 
--- the bytes that are still to be handed on
+-- the bytes that have been gathered
+abbrev pub gathered_of : Block → List ℕ
+gathered_of block = take block.len block.room.items
+
+-- those of them that are still to be handed on
 abbrev pub held_of : Block → List ℕ
-held_of block = drop block.handed block.gathered.items
+held_of block = drop block.handed (gathered_of block)
 
 -- nothing has been gathered and nothing handed on
 pub record IsEmptyBlock (block : Block) : Type 0 where

@@ -1,9 +1,9 @@
 //! An out that hands its bytes on in blocks.
 ghost use Rattle.std.proofs.Common.{rules, refl, ◌∙◌};
-ghost use Rattle.std.specs.Prelude.{◌≡◌, ◌+◌, ◌<◌, ◌≤◌, ◌++◌, [], OnOk, OnErr, IfOk, IsErr, length, take, count_by, vec_len};
+ghost use Rattle.std.specs.Prelude.{◌≡◌, ◌+◌, ◌<◌, ◌≤◌, ◌++◌, [], OnOk, OnErr, IfOk, IsErr, length, take, count_by};
 ghost use Rattle.jl_model.specs.Causes.{HasCause};
 ghost use Rattle.jl_io.specs.Outside.{appended};
-ghost use Rattle.jl_top.specs.Blocks.{HandsOn, held_of, is_line_feed, CountsLines};
+ghost use Rattle.jl_top.specs.Blocks.{HandsOn, gathered_of, held_of, is_line_feed, CountsLines};
 
 use super::blocks::Block;
 use jl_io::{ByteOut, Failed};
@@ -40,8 +40,12 @@ impl<'a, B: ByteOut> ByteOut for BlockOut<'a, B> {
 
     #[inline(always)]
     fn put(&mut self, bytes: &[u8]) -> Result<usize, Failed> {
-        make_room(self.out, self.block)?;
-        Ok(self.block.gather(bytes))
+        if self.block.has_room(bytes.len()) {
+            self.block.append(bytes);
+            Ok(bytes.len())
+        } else {
+            put_front(self.out, self.block, bytes)
+        }
     }
 
     ghost itself = { λ a. (refl, refl, B.itself a.out.now, λ h. h) };
@@ -49,16 +53,37 @@ impl<'a, B: ByteOut> ByteOut for BlockOut<'a, B> {
     ghost joins = { λ a b c h k. (k.0 ∙ h.0, k.1 ∙ h.1, B.joins a.out.now b.out.now c.out.now h.2 k.2, λ n. k.3 (h.3 n)) };
 }
 
-/// Hands on some of what is held.
-fn hand_on_some<B: ByteOut>(out: &mut B, block: &mut Block) -> Result<(), Failed>
-    requires { block.old.handed < vec_len block.old.gathered }
-    ensures hands_on { HandsOn (B.written out.old) (B.written out.new) block.old block.new }
-    ensures some { OnOk result (block.old.handed < block.new.handed) }
-    ensures gathered { block.new.gathered.items ≡ block.old.gathered.items }
+/// Gathers as many bytes as there is room for, once all that is held was handed on where there was
+/// none.
+#[inline(never)]
+fn put_front<B: ByteOut>(out: &mut B, block: &mut Block, bytes: &[u8]) -> Result<usize, Failed>
+    requires { 0 < length bytes.now }
+    ensures some { IfOk result (λ n. 0 < n) }
+    ensures within { IfOk result (λ n. n ≤ length bytes.now) }
+    ensures put { IfOk result (λ n. appended (B.written out.new) (held_of block.new) ≡ appended
+        (appended (B.written out.old) (held_of block.old)) (take n bytes.now)) }
+    ensures unput { OnErr result (appended (B.written out.new) (held_of block.new) ≡ appended
+        (B.written out.old) (held_of block.old)) }
+    ensures counts { CountsLines (B.written out.old) block.old.lines → CountsLines
+        (B.written out.new) block.new.lines }
     ensures cause { HasCause (B.put_faults out.old) (B.put_faults out.new) (IsErr result) }
     ensures beside { B.beside out.old out.new }
 {
-    let rest = &block.gathered[block.handed..];
+    make_room(out, block)?;
+    Ok(block.gather(bytes))
+}
+
+/// Hands on some of what is held.
+fn hand_on_some<B: ByteOut>(out: &mut B, block: &mut Block) -> Result<(), Failed>
+    requires { block.old.handed < block.old.len }
+    ensures hands_on { HandsOn (B.written out.old) (B.written out.new) block.old block.new }
+    ensures some { OnOk result (block.old.handed < block.new.handed) }
+    ensures gathered { gathered_of block.new ≡ gathered_of block.old }
+    ensures len { block.new.len ≡ block.old.len }
+    ensures cause { HasCause (B.put_faults out.old) (B.put_faults out.new) (IsErr result) }
+    ensures beside { B.beside out.old out.new }
+{
+    let rest = &block.gathered()[block.handed..];
     match out.put(rest) {
         Ok(n) => {
             let feeds = line_feeds(&rest[..n]);
@@ -102,11 +127,11 @@ fn few_line_feeds(bytes: &[u8]) -> u64
 pub fn hand_on<B: ByteOut>(out: &mut B, block: &mut Block) -> Result<(), Failed>
     ensures hands_on { HandsOn (B.written out.old) (B.written out.new) block.old block.new }
     ensures all { OnOk result (held_of block.new ≡ []) }
-    ensures empty { OnOk result (block.new.gathered.items ≡ []) }
+    ensures empty { OnOk result (block.new.len ≡ 0) }
     ensures cause { HasCause (B.put_faults out.old) (B.put_faults out.new) (IsErr result) }
     ensures beside { B.beside out.old out.new }
 {
-    while block.handed < block.gathered.len() {
+    while block.handed < block.len {
         hand_on_some(out, block)?;
     }
     block.empty();
@@ -117,7 +142,7 @@ pub fn hand_on<B: ByteOut>(out: &mut B, block: &mut Block) -> Result<(), Failed>
 #[inline(always)]
 fn make_room<B: ByteOut>(out: &mut B, block: &mut Block) -> Result<(), Failed>
     ensures hands_on { HandsOn (B.written out.old) (B.written out.new) block.old block.new }
-    ensures room { OnOk result (vec_len block.new.gathered < 65536) }
+    ensures room { OnOk result (block.new.len < 65536) }
     ensures cause { HasCause (B.put_faults out.old) (B.put_faults out.new) (IsErr result) }
     ensures beside { B.beside out.old out.new }
 {

@@ -15,34 +15,34 @@ returns-in_err-put_all-clause-cut g c =
     on_err c.from_residual.result
     (lit_cut w0 w1 text suffix (cut_first w0 w1 (codes "\"" ++ text) (ending c.args.datatype.now c.args.language.now) (cut_first w0 w1 (codes "\"") text c.in_err-put_all.ensures.cut)))
 
-pub returns-in_err-put_escaped-clause-cut : goal.returns-in_err-put_escaped-clause-cut
-returns-in_err-put_escaped-clause-cut g c =
+pub returns-in_err-put_string-clause-cut : goal.returns-in_err-put_string-clause-cut
+returns-in_err-put_string-clause-cut g c =
     let w0 = g.B.ByteOut.written c.args.out.now in
     let w1 = g.B.ByteOut.written c.put_all.new.out in
-    let w2 = g.B.ByteOut.written c.put_escaped.new.out in
+    let w2 = g.B.ByteOut.written c.put_string.new.out in
     let text = flat_map escaped c.args.text.now in
     let suffix = suffix_text c.args.datatype.now c.args.language.now in
-    on_err c.from_residual-in_err-put_escaped.result
-    (lit_cut w0 w2 text suffix (cut_first w0 w2 (codes "\"" ++ text) (ending c.args.datatype.now c.args.language.now) (cut_then w0 w1 w2 (codes "\"") text c.in_ok-put_all.ensures.put c.in_err-put_escaped.ensures.cut)))
+    on_err c.from_residual-in_err-put_string.result
+    (lit_cut w0 w2 text suffix (cut_first w0 w2 (codes "\"" ++ text) (ending c.args.datatype.now c.args.language.now) (cut_then w0 w1 w2 (codes "\"") text c.in_ok-put_all.ensures.put c.in_err-put_string.ensures.cut)))
 
 pub returns-clause-put : goal.returns-clause-put
 returns-clause-put g c =
     let w0 = g.B.ByteOut.written c.args.out.now in
     let w1 = g.B.ByteOut.written c.put_all.new.out in
-    let w2 = g.B.ByteOut.written c.put_escaped.new.out in
+    let w2 = g.B.ByteOut.written c.put_string.new.out in
     let w3 = g.B.ByteOut.written c.put_ending.new.out in
     let text = flat_map escaped c.args.text.now in
     let suffix = suffix_text c.args.datatype.now c.args.language.now in
-    let text_put = put_then w0 w1 w2 (codes "\"") text c.in_ok-put_all.ensures.put c.in_ok-put_escaped.ensures.put in
+    let text_put = put_then w0 w1 w2 (codes "\"") text c.in_ok-put_all.ensures.put c.in_ok-put_string.ensures.put in
     on_ok c.put_ending.result (λ h. lit_put w0 w3 text suffix (put_then w0 w2 w3 (codes "\"" ++ text) (ending c.args.datatype.now c.args.language.now) text_put h)) c.put_ending.ensures.put
 
 pub returns-clause-cut : goal.returns-clause-cut
 returns-clause-cut g c =
     let w0 = g.B.ByteOut.written c.args.out.now in
     let w1 = g.B.ByteOut.written c.put_all.new.out in
-    let w2 = g.B.ByteOut.written c.put_escaped.new.out in
+    let w2 = g.B.ByteOut.written c.put_string.new.out in
     let w3 = g.B.ByteOut.written c.put_ending.new.out in
     let text = flat_map escaped c.args.text.now in
     let suffix = suffix_text c.args.datatype.now c.args.language.now in
-    let text_put = put_then w0 w1 w2 (codes "\"") text c.in_ok-put_all.ensures.put c.in_ok-put_escaped.ensures.put in
+    let text_put = put_then w0 w1 w2 (codes "\"") text c.in_ok-put_all.ensures.put c.in_ok-put_string.ensures.put in
     on_err_too c.put_ending.result (λ h. lit_cut w0 w3 text suffix (cut_then w0 w2 w3 (codes "\"" ++ text) (ending c.args.datatype.now c.args.language.now) text_put h)) c.put_ending.ensures.cut

@@ -1,4 +1,4 @@
-use Rattle.std.proofs.Common.{◌≡◌, ◌-◌, vec_len}
+use Rattle.std.proofs.Common.{◌≡◌, ◌-◌}
 use Rattle.jl_top.specs.Blocks.{HandsOn}
 use Rattle.jl_top.proofs.block_outs.hand_on.Given as goal
 
@@ -10,4 +10,4 @@ invariant-loop-block g l = record {
 }
 
 abbrev pub decreases-loop-block : goal.decreases-loop-block
-decreases-loop-block g l = vec_len l.block.gathered - l.block.handed
+decreases-loop-block g l = l.block.len - l.block.handed

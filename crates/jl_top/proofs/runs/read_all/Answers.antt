@@ -4,6 +4,10 @@ use Rattle.jl_top.specs.Words.{settings_with}
 use Rattle.jl_top.proofs.Going.{memory_answers, begun_new}
 use Rattle.jl_top.proofs.runs.read_all.Goals as goal
 
+pub returns-in_default-clause-answers : goal.returns-in_default-clause-answers
+returns-in_default-clause-answers g c =
+    memory_answers (settings_with (option_copied c.args.base)) (g.P.Port.taken c.args.port.now) (g.P.Port.left c.args.port.now) (g.P.ByteOut.written c.args.port.now) (g.P.Port.ended c.args.port.now) c.requires.fresh
+
 pub returns-in_default-vec-clause-answers : goal.returns-in_default-vec-clause-answers
 returns-in_default-vec-clause-answers g c =
     memory_answers (settings_with (option_copied c.args.base)) (g.P.Port.taken c.args.port.now) (g.P.Port.left c.args.port.now) (g.P.ByteOut.written c.args.port.now) (g.P.Port.ended c.args.port.now) c.requires.fresh

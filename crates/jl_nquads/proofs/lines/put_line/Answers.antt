@@ -3,7 +3,7 @@ use Rattle.jl_model.specs.Lines.{spaced, term_text, iri_text, graph_text}
 use Rattle.std.specs.Option.{option_copied}
 use Rattle.jl_io.proofs.Fronts.{put_then, cut_first, cut_then}
 use Rattle.jl_io.proofs.Outcomes.{on_err, on_err_too, on_ok}
-use Rattle.jl_nquads.proofs.lines.put_terms.Goals as goal
+use Rattle.jl_nquads.proofs.lines.put_line.Goals as goal
 
 pub returns-in_err-put_spaced-clause-cut : goal.returns-in_err-put_spaced-clause-cut
 returns-in_err-put_spaced-clause-cut g c =
