@@ -1,9 +1,14 @@
 -- What the calls of a port do to the bytes that it tells. A port that doesn't tell them has `None`.
-use Rattle.std.specs.Prelude.{◌≡◌, ℕ, List, [], ◌++◌, Option, Some, None, IsSome, IfSome, option_map}
+use Rattle.std.specs.Prelude.{◌≡◌, ℕ, Bool, true, false, List, [], ◌++◌, Option, Some, None, IsSome, IfSome, option_map}
 
 -- the bytes told before, with these at their end
 abbrev pub appended : Option (List ℕ) → List ℕ → Option (List ℕ)
 appended told bytes = option_map (λ before. before ++ bytes) told
+
+-- either these bytes were put, or none
+abbrev pub PutsAtOnce : Bool → List ℕ → Option (List ℕ) → Option (List ℕ) → Type 0
+PutsAtOnce true bytes old new = new ≡ appended old bytes
+PutsAtOnce false bytes old new = new ≡ old
 
 -- these bytes went from the front of those told as left
 abbrev pub Leaves : Option (List ℕ) → List ℕ → Option (List ℕ) → Type 0

@@ -2,9 +2,9 @@
 //!
 //! A meaning such as the bytes put is optional: a port over memory tells it, one over a device
 //! doesn't. A call changes no meaning that its clauses don't name.
-ghost use Rattle.std.specs.Prelude.{◌≡◌, ◌<◌, ◌≤◌, ◌==◌, ℕ, List, Bool, false, Option, length, take, IfOk, OnErr, IsErr};
+ghost use Rattle.std.specs.Prelude.{◌≡◌, ◌<◌, ◌≤◌, ◌==◌, ◌++◌, ℕ, List, Bool, false, Option, length, take, IfOk, OnErr, IsErr};
 ghost use Rattle.jl_model.specs.Causes.{HasCause};
-ghost use Rattle.jl_io.specs.Outside.{appended, Leaves, NoneLeft, SaysMore, MayTake, SaysSame};
+ghost use Rattle.jl_io.specs.Outside.{appended, PutsAtOnce, Leaves, NoneLeft, SaysMore, MayTake, SaysSame};
 
 /// A device failed.
 #[derive(Clone, Copy, Debug, PartialEq, Eq)]
@@ -31,6 +31,16 @@ pub trait ByteOut {
         ensures unput { OnErr result (written self.new ≡ written self.old) }
         ensures cause { HasCause (put_faults self.old) (put_faults self.new) (IsErr result) }
         ensures beside { beside self.old self.new };
+
+    /// Takes all of these texts, one after another, and says yes; or changes nothing. It is for an
+    /// out that has room at hand, and never fails.
+    fn put_at_once(&mut self, front: &[u8], text: &[u8], back: &[u8]) -> bool
+        ensures put { PutsAtOnce result (front.now ++ (text.now ++ back.now)) (written self.old) (written self.new) }
+        ensures faults { put_faults self.new ≡ put_faults self.old }
+        ensures beside { beside self.old self.new }
+    {
+        false
+    }
 
     /// Nothing changes beside a value and itself.
     ghost itself: { (out : Self) → beside out out };

@@ -1,5 +1,5 @@
 //! The line of a quad, put to an out text by text. No call here takes memory.
-ghost use Rattle.std.specs.Prelude.{◌≡◌, ◌<◌, ◌≤◌, ◌++◌, length, take, OnOk, OnErr, IfOk, IsErr, None, flat_map};
+ghost use Rattle.std.specs.Prelude.{◌≡◌, ◌<◌, ◌≤◌, ◌++◌, length, take, OnOk, OnErr, IfOk, IsErr, None, codes, flat_map};
 ghost use Rattle.std.specs.Option.{option_copied};
 ghost use Rattle.std.specs.Str.{bytes_eq};
 ghost use Rattle.jl_model.specs.Causes.{HasCause};
@@ -117,7 +117,6 @@ fn put_lit<B: ByteOut>(
     ensures cause { HasCause (B.put_faults out.old) (B.put_faults out.new) (IsErr result) }
     ensures beside { B.beside out.old out.new }
 {
-    put_all(out, b"\"")?;
     put_string(text, out)?;
     put_ending(datatype, language, out)
 }
@@ -173,29 +172,59 @@ fn put_between<B: ByteOut>(
     ensures cause { HasCause (B.put_faults out.old) (B.put_faults out.new) (IsErr result) }
     ensures beside { B.beside out.old out.new }
 {
+    if out.put_at_once(front, text, back) {
+        Ok(())
+    } else {
+        put_each(front, text, back, out)
+    }
+}
+
+/// Puts three texts, one after another.
+#[inline(never)]
+fn put_each<B: ByteOut>(front: &[u8], text: &[u8], back: &[u8], out: &mut B) -> Result<(), Failed>
+    ensures put { OnOk result (B.written out.new ≡ appended (B.written out.old)
+        (front.now ++ (text.now ++ back.now))) }
+    ensures cut { OnErr result (PutsFront (B.written out.old)
+        (front.now ++ (text.now ++ back.now)) (B.written out.new)) }
+    ensures cause { HasCause (B.put_faults out.old) (B.put_faults out.new) (IsErr result) }
+    ensures beside { B.beside out.old out.new }
+{
     put_all(out, front)?;
     put_all(out, text)?;
     put_all(out, back)
 }
 
-/// Puts a literal's string with its escapes. Most strings have none.
+/// Puts a literal's opening quote and its string with its escapes. Most strings have none.
 fn put_string<B: ByteOut>(text: &[u8], out: &mut B) -> Result<(), Failed>
     ensures put { OnOk result (B.written out.new ≡ appended (B.written out.old)
-        (flat_map escaped text.now)) }
-    ensures cut { OnErr result (PutsFront (B.written out.old) (flat_map escaped text.now)
-        (B.written out.new)) }
+        (codes "\"" ++ flat_map escaped text.now)) }
+    ensures cut { OnErr result (PutsFront (B.written out.old)
+        (codes "\"" ++ flat_map escaped text.now) (B.written out.new)) }
     ensures cause { HasCause (B.put_faults out.old) (B.put_faults out.new) (IsErr result) }
     ensures beside { B.beside out.old out.new }
 {
     if has_no_escape(text) {
-        put_all(out, text)
+        put_between(b"\"", text, b"", out)
     } else {
-        put_escaped(text, out)
+        put_quoted(text, out)
     }
 }
 
-/// Puts a string run by run, with its escapes.
+/// The same, run by run.
 #[inline(never)]
+fn put_quoted<B: ByteOut>(text: &[u8], out: &mut B) -> Result<(), Failed>
+    ensures put { OnOk result (B.written out.new ≡ appended (B.written out.old)
+        (codes "\"" ++ flat_map escaped text.now)) }
+    ensures cut { OnErr result (PutsFront (B.written out.old)
+        (codes "\"" ++ flat_map escaped text.now) (B.written out.new)) }
+    ensures cause { HasCause (B.put_faults out.old) (B.put_faults out.new) (IsErr result) }
+    ensures beside { B.beside out.old out.new }
+{
+    put_all(out, b"\"")?;
+    put_escaped(text, out)
+}
+
+/// Puts a string with its escapes, run by run.
 #[tactic(auto, using(crate::proofs::EscapeRuns::escaped_cut))]
 fn put_escaped<B: ByteOut>(text: &[u8], out: &mut B) -> Result<(), Failed>
     ensures put { OnOk result (B.written out.new ≡ appended (B.written out.old)

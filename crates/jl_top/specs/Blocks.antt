@@ -1,5 +1,5 @@
 -- Output in blocks.
-use Rattle.std.specs.Prelude.{◌≡◌, ℕ, ◌+◌, ◌-◌, ◌^◌, ◌==◌, Bool, List, [], ◌++◌, min, take, drop, Option, IfSome, count_by}
+use Rattle.std.specs.Prelude.{◌≡◌, ℕ, ◌+◌, ◌-◌, ◌^◌, ◌==◌, Bool, true, false, List, [], ◌++◌, min, take, drop, Option, IfSome, count_by}
 use Rattle.jl_io.specs.Outside.{appended}
 use Rattle.jl_top.specs.declared.blocks.Block.{Block}
 
@@ -31,6 +31,11 @@ pub record IsEmptyBlock (block : Block) : Type 0 where
 pub record Gathers (old new : Block) (bytes : List ℕ) : Type 0 where
   pub held : held_of new ≡ held_of old ++ bytes
   pub lines : new.lines ≡ old.lines
+
+-- either these bytes were gathered, or nothing changed
+abbrev pub GathersAtOnce : Bool → Block → Block → List ℕ → Type 0
+GathersAtOnce true old new bytes = Gathers old new bytes
+GathersAtOnce false old new bytes = new ≡ old
 
 -- some of the bytes held were put, and their line feeds counted
 pub record HandsOn (put_old put_new : Option (List ℕ)) (old new : Block) : Type 0 where

@@ -48,6 +48,11 @@ impl<'a, B: ByteOut> ByteOut for BlockOut<'a, B> {
         }
     }
 
+    #[inline(always)]
+    fn put_at_once(&mut self, front: &[u8], text: &[u8], back: &[u8]) -> bool {
+        self.block.gather_at_once(front, text, back)
+    }
+
     ghost itself = { λ a. (refl, refl, B.itself a.out.now, λ h. h) };
 
     ghost joins = { λ a b c h k. (k.0 ∙ h.0, k.1 ∙ h.1, B.joins a.out.now b.out.now c.out.now h.2 k.2, λ n. k.3 (h.3 n)) };

@@ -25,7 +25,7 @@ pub struct Block {
 }
 
 impl Block {
-    ghost use Rattle.jl_top.specs.Blocks.{IsEmptyBlock, Gathers, gathered_of, held_of};
+    ghost use Rattle.jl_top.specs.Blocks.{IsEmptyBlock, Gathers, GathersAtOnce, gathered_of, held_of};
 
     /// An empty block.
     pub fn new(alloc: Global) -> Result<Block, NoMemory>
@@ -80,11 +80,28 @@ impl Block {
     #[inline(always)]
     pub fn append(&mut self, bytes: &[u8])
         requires { self.old.len + length bytes.now ≤ 65536 }
-        ensures { Gathers self.old self.new bytes.now }
+        ensures gathers { Gathers self.old self.new bytes.now }
+        ensures len { self.new.len ≡ self.old.len + length bytes.now }
     {
         let end = self.len + bytes.len();
         copy_at(&mut self.room, self.len, bytes);
         self.len = end;
+    }
+
+    /// Gathers the three texts, one after another, if there is room for all of them.
+    #[inline(always)]
+    pub fn gather_at_once(&mut self, front: &[u8], text: &[u8], back: &[u8]) -> bool
+        ensures { GathersAtOnce result self.old self.new (front.now ++ (text.now ++ back.now)) }
+    {
+        let room = BLOCK - self.len;
+        let around = front.len() + back.len();
+        if room < around || room - around < text.len() {
+            return false;
+        }
+        self.append(front);
+        self.append(text);
+        self.append(back);
+        true
     }
 
     /// Begins anew, once everything has been handed on.

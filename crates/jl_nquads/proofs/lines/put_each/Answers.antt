@@ -1,7 +1,7 @@
 use Rattle.std.proofs.Common.{◌++◌}
 use Rattle.jl_io.proofs.Fronts.{put_then, cut_first, cut_then}
 use Rattle.jl_io.proofs.Outcomes.{on_err, on_err_too, on_ok}
-use Rattle.jl_nquads.proofs.lines.put_between.Goals as goal
+use Rattle.jl_nquads.proofs.lines.put_each.Goals as goal
 
 pub returns-in_err-put_all-clause-cut : goal.returns-in_err-put_all-clause-cut
 returns-in_err-put_all-clause-cut g c =
