@@ -1,0 +1,3 @@
+mod KeywordForms
+mod SameLengths
+mod TypeEntries

@@ -1,0 +1,4 @@
+pub mod Seen
+pub mod Views
+pub mod Steps
+pub mod Keywords
