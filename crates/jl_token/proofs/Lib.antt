@@ -36,3 +36,8 @@ pub mod TokensUtf8
 pub mod OnePlace
 pub mod OneFault
 pub mod Ways
+mod GrowingTrees
+mod TreePlaces
+mod TreeEndings
+pub mod OneOfTokens
+pub mod TextTrees

@@ -13,3 +13,4 @@ pub mod Moves
 pub mod Runs
 pub mod Nexts
 pub mod TokenTexts
+pub mod Trees
