@@ -1,0 +1,4 @@
+mod Meeting
+mod OtherNames
+mod Extending
+mod Growing
