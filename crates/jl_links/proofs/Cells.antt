@@ -1,10 +1,10 @@
 -- What the definitions say of cells, step by step.
-use Rattle.std.proofs.Common.{◌≡◌, ◌↔◌, ℕ, Bool, true, false, ◌&&◌, refl, sym, ap, subst, ◌∙◌, ◌⊎◌, inl, inr, IsTrue, List, [], ◌∷◌, ◌++◌, Option, Some, None, IsSome, IfSome}
+use Rattle.std.proofs.Common.{◌≡◌, ◌↔◌, ℕ, Bool, true, false, refl, sym, ap, subst, ◌∙◌, ◌⊎◌, inl, inr, IsTrue, List, [], ◌∷◌, ◌++◌, Option, Some, None}
 use Rattle.std.proofs.lemmas.Bool.{cases_Bool, and_from, and_parts}
 use Rattle.std.proofs.lemmas.Str.{IsUtf8-from_is_utf8, is_utf8-from_IsUtf8}
 use Rattle.std.specs.Str.{is_utf8}
 use Rattle.jl_model.specs.Iris.{IsIri, has_iri_form}
-use Rattle.jl_model.specs.Parts.{Parts, AreWellFormed, parts_of}
+use Rattle.jl_model.specs.Parts.{Parts}
 use Rattle.jl_model.specs.declared.terms.Term.{Term}
 use Rattle.jl_model.specs.declared.terms.Term.TheVariants.{Iri, Blank, Literal}
 use Rattle.jl_model.specs.declared.graph_scopes.GraphScope.{GraphScope}
@@ -13,10 +13,7 @@ use Rattle.jl_defs.specs.Texts.{Text, is_iri}
 use Rattle.jl_defs.specs.Items.{Item, value_at, list_at, node_at, Items, no_more, more, item_place}
 use Rattle.jl_defs.specs.Dataset.{Head, link, with_terms, turned, quad_in, is_whole, term_of, cell_at, cell_head, item_quads, list_quads, rdf_first, rdf_rest, rdf_nil}
 use Rattle.jl_links.specs.declared.states.LinkState.{LinkState}
-use Rattle.jl_links.specs.Links.{IsWritten, IsIn, IsLeaf, hangs, hangs_by, by_head, item_says, term_says, still_says}
-
-abbrev pub head : Term → Text → GraphScope → Head
-head s p scope = record { subject = Some s; predicate = p; scope = scope; forward = true }
+use Rattle.jl_links.specs.Links.{head, IsWritten, IsIn, IsLeaf, hangs, by_head, item_says, term_says, still_says}
 
 -- a literal is no subject
 no_subject : (quad : Option Parts) (scope : GraphScope) (s : Term) (p : Text) (o : Term) → IsWritten quad (quad_in scope s p o) → IsWritten quad (turned true scope s p o)

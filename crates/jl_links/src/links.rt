@@ -1,9 +1,7 @@
 //! A list that is open: its items come one after another.
-ghost use Rattle.std.specs.Prelude.{◌≡◌, ◌↔◌, ◌++◌, ℕ, List, IfSome, IsSome, IfOk, OnOk, OnErr};
-ghost use Rattle.jl_defs.specs.Items.{Item, Items, no_more, more, list_at, item_place};
-ghost use Rattle.jl_links.specs.declared.states.LinkState.{LinkState};
-ghost use Rattle.jl_defs.specs.Dataset.{item_quads, term_of};
-ghost use Rattle.jl_links.specs.Links.{IsFormed, IsWritten, IsLeaf, GoesOn, head_meant, still_says, cell_says, term_says, item_says};
+ghost use Rattle.std.specs.Prelude.{◌≡◌, ◌↔◌, IfSome, IsSome, IfOk, OnOk, OnErr};
+ghost use Rattle.jl_defs.specs.Items.{no_more};
+ghost use Rattle.jl_links.specs.Links.{IsFormed, IsWritten, GoesOn, LeavesSay, SaysList, head_meant, still_says, cell_says, term_says};
 
 use crate::quads::cell;
 use crate::states::{Hanging, LinkState, hanging_on};
@@ -50,7 +48,7 @@ impl Link {
     /// A list without items, which hangs on this head. It takes no memory.
     #[tactic(auto, using(crate::proofs::Cells::no_head))]
     pub fn new(head: Head) -> Link
-        ensures { (at : ℕ) (items : Items) → still_says result items ≡ item_quads (head_meant head) (list_at at items) }
+        ensures { SaysList result (head_meant head) }
     {
         let scope = head.scope;
         let hanging = match (head.subject, head.predicate) {
@@ -87,8 +85,8 @@ impl Link {
     /// An item without a term keeps its cell. So does an inner list, which then hangs on its cell
     /// by `rdf:first`.
     pub fn join(&mut self, alloc: Global, at: u64, item: Option<Term>) -> Result<TwoQuads, NoMemory>
-        ensures first { IfOk result (λ quads. IsWritten quads.first (cell_says self.old at)) }
-        ensures second { IfOk result (λ quads. IsWritten quads.second (term_says self.old at item)) }
+        ensures first { IfOk result (λ q. IsWritten q.first (cell_says self.old at)) }
+        ensures second { IfOk result (λ q. IsWritten q.second (term_says self.old at item)) }
         ensures rest { OnOk result (GoesOn self.old at self.new) }
         ensures err { OnErr result (self.new ≡ self.old) }
     {
@@ -109,5 +107,5 @@ impl Link {
 /// What a value or a node says on its cell is the quad of its term.
 #[tactic(auto, using(crate::proofs::Cells::leaf_says))]
 pub fn law_items()
-    ensures { (s : LinkState) (x : Item) → IsLeaf x → item_says s x ≡ term_says s (item_place x) (term_of x) }
+    ensures { LeavesSay }
 {}

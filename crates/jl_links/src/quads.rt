@@ -1,9 +1,9 @@
 //! The quads of cells.
-ghost use Rattle.std.specs.Prelude.{◌≡◌, true, Some, IfOk};
+ghost use Rattle.std.specs.Prelude.{◌≡◌, true, IfOk};
 ghost use Rattle.jl_defs.specs.NodeMap.{cell_label};
 ghost use Rattle.jl_defs.specs.Dataset as spec;
 ghost use Rattle.jl_defs.specs.Texts as texts;
-ghost use Rattle.jl_links.specs.Links.{IsWritten};
+ghost use Rattle.jl_links.specs.Links.{IsWritten, head, links};
 
 use itoa::Buffer;
 use jl_model::{GraphScope, NoMemory, Quad, Term, Text};
@@ -45,7 +45,7 @@ pub fn linked(
     object: Term,
 ) -> Result<Option<Quad>, NoMemory>
     requires { texts.is_iri predicate.now ≡ true }
-    ensures { IfOk result (λ quad. IsWritten quad (spec.link (record { subject = Some subject; predicate = predicate.now; scope = scope.now; forward = true }) (Some object))) }
+    ensures { IfOk result (λ q. IsWritten q (links (head subject predicate.now scope.now) object)) }
 {
     let quad = quad_in(alloc, scope, subject, predicate, object)?;
     Ok(quad)
@@ -60,7 +60,7 @@ pub fn on_cell(
     object: Term,
 ) -> Result<Option<Quad>, NoMemory>
     requires { texts.is_iri predicate.now ≡ true }
-    ensures { IfOk result (λ quad. IsWritten quad (spec.link (spec.cell_head scope.now at predicate.now) (Some object))) }
+    ensures { IfOk result (λ q. IsWritten q (links (spec.cell_head scope.now at predicate.now) object)) }
 {
     let subject = cell(alloc, at)?;
     linked(alloc, scope, subject, predicate, object)
@@ -74,7 +74,7 @@ fn quad_in(
     predicate: &[u8],
     object: Term,
 ) -> Result<Option<Quad>, NoMemory>
-    ensures { IfOk result (λ quad. IsWritten quad (spec.quad_in scope.now subject predicate.now object)) }
+    ensures { IfOk result (λ q. IsWritten q (spec.quad_in scope.now subject predicate.now object)) }
 {
     let graph = match scope {
         GraphScope::LeftOut => return Ok(None),

@@ -1,9 +1,8 @@
 //! What a list that is open keeps.
-ghost use Rattle.std.specs.Prelude.{◌≡◌, ◌↔◌, ℕ, IsTrue, true, Some, IfOk, OnOk};
-ghost use Rattle.jl_defs.specs.Dataset as spec;
-ghost use Rattle.jl_defs.specs.Items.{Items, no_more, list_at};
+ghost use Rattle.std.specs.Prelude.{◌≡◌, ◌↔◌, IsTrue, IfOk};
+ghost use Rattle.jl_defs.specs.Items.{no_more};
 ghost use Rattle.jl_defs.specs.Texts as texts;
-ghost use Rattle.jl_links.specs.Links.{IsFormed, IsFormedAt, IsIn, IsWritten, GoesOn, hangs, hangs_by, by_head, still_says, term_says};
+ghost use Rattle.jl_links.specs.Links.{IsFormed, IsFormedAt, IsIn, IsWritten, GoesOn, SaysListAt, head, link_says, still_says, term_says};
 
 use crate::quads::{FIRST, REST, linked, nil, on_cell};
 use jl_model::{GraphScope, NoMemory, Quad, Term, Text, is_iri};
@@ -44,7 +43,7 @@ impl LinkState {
     /// The quad that links this term where the next cell hangs.
     pub(crate) fn link(&self, alloc: Global, object: Term) -> Result<Option<Quad>, NoMemory>
         requires { IsFormed self.now }
-        ensures { IfOk result (λ quad. IsWritten quad (by_head (hangs self.now) (λ h. spec.link h (Some object)))) }
+        ensures { IfOk result (λ quad. IsWritten quad (link_says self.now object)) }
     {
         match &self.hanging {
             Hanging::Nowhere => Ok(None),
@@ -105,7 +104,7 @@ impl LinkState {
 #[tactic(auto, using(crate::proofs::Cells::says_cells, crate::proofs::Cells::says_nothing))]
 pub(crate) fn hanging_on(subject: Term, predicate: Text, scope: &GraphScope) -> Hanging
     ensures formed { IsFormedAt result scope.now }
-    ensures says { (at : ℕ) (items : Items) → by_head (hangs_by result scope.now) (λ h. spec.list_quads h items) ≡ spec.item_quads (record { subject = Some subject; predicate = predicate; scope = scope.now; forward = true }) (list_at at items) }
+    ensures says { SaysListAt result scope.now (head subject predicate scope.now) }
 {
     if is_iri_text(predicate.bytes()) && is_in(scope) {
         Hanging::Head { subject, predicate }

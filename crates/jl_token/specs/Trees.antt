@@ -1,8 +1,10 @@
 -- The tokens of a tree, and those that a tree which is being built has read.
-use Rattle.std.specs.Prelude.{◌≡◌, Bool, true, false, List, [], ◌∷◌, ◌++◌, map, Option, Some, None}
+use Rattle.std.specs.Prelude.{ℕ, ◌≡◌, Bool, true, false, List, [], ◌∷◌, ◌++◌, map, Option, Some, None}
 use Rattle.std.specs.List.{list_all}
+use Rattle.jl_model.specs.declared.trees.Json.{Json}
 use Rattle.jl_model.specs.declared.tokens.Token.{Token}
 use Rattle.jl_model.specs.declared.tokens.Token.TheVariants as tokens
+use Rattle.jl_model.specs.JsonText.{Reads}
 use Rattle.jl_model.specs.JsonTree.{Tree, scalar, array, object, Trees, no_item, item, Members, no_member, member}
 use Rattle.jl_model.specs.JsonView.{tree_of, trees, items_of, members_of}
 use Rattle.jl_model.specs.JsonView.{members as member_trees}
@@ -161,3 +163,51 @@ IsWholeAt (growth.Whole json) = Unit {0}
 
 abbrev pub IsWhole : TreeState → Type 0
 IsWhole s = IsWholeAt s.growth
+
+-- ---- what a call does
+
+-- these tokens are read behind the others
+abbrev pub Adds : TreeState → TreeState → List Token → Type 0
+Adds old new more = state_tokens new ≡ state_tokens old ++ more
+
+-- the same of one container
+abbrev pub AddsTo : OpenTree → OpenTree → List Token → Type 0
+AddsTo old new more = open_tokens new ≡ open_tokens old ++ more
+
+-- the tokens of a value
+abbrev pub value_tokens : Json → List Token
+value_tokens value = tree_tokens (tree_of value) []
+
+-- where some tokens were read, this one is read behind them
+abbrev pub ReadsOn : TreeState → TreeState → Token → Type 0
+ReadsOn old new token = (read : List Token) → HasRead read old → HasRead (read ++ token ∷ []) new
+
+-- the tokens read are just those of this value
+abbrev pub IsTreeOf : Json → TreeState → Type 0
+IsTreeOf value s = (read : List Token) → HasRead read s → AreTokensOf (tree_of value) read
+
+-- no container is left
+abbrev pub NoneLeft : List OpenTree → List OpenTree → Type 0
+NoneLeft old new = (old ≡ []) × (new ≡ [])
+
+-- ---- laws
+
+-- with a token that may come, the tokens read begin a tree
+abbrev pub TakenBegins : Type 0
+TakenBegins = (s : TreeState) (read : List Token) (token : Token) → IsFormed s → HasRead read s → takes s.growth token ≡ true → Begin (read ++ token ∷ [])
+
+-- a token with which the tokens read begin a tree may come
+abbrev pub BegunMayCome : Type 0
+BegunMayCome = (s : TreeState) (read : List Token) (token : Token) → IsFormed s → HasRead read s → Begin (read ++ token ∷ []) → takes s.growth token ≡ true
+
+-- where the tokens read are those of a tree, it is whole
+abbrev pub ReadIsWhole : Type 0
+ReadIsWhole = (s : TreeState) (read : List Token) (tree : Tree) → IsFormed s → HasRead read s → AreTokensOf tree read → IsWhole s
+
+-- tokens are those of one tree at most
+abbrev pub OneTree : Type 0
+OneTree = (tree other : Tree) (read : List Token) → AreTokensOf tree read → AreTokensOf other read → tree ≡ other
+
+-- the tokens of a readable text are those of its tree
+abbrev pub TreeOfText : Type 0
+TreeOfText = (start : ℕ) (text : List ℕ) (tree : Tree) (read : List Token) → Reads start text tree read → AreTokensOf tree read

@@ -2,8 +2,7 @@
 ghost use Rattle.std.specs.Prelude.{◌≡◌, ◌++◌, ◌↔◌, IsTrue, OnOk, OnErr, MatchOption, [], ◌∷◌, true};
 ghost use Rattle.std.specs.List.{list_all};
 ghost use Rattle.jl_model.specs.declared.tokens.Token.TheVariants as tokens;
-ghost use Rattle.jl_model.specs.JsonView.{tree_of};
-ghost use Rattle.jl_token.specs.Trees.{tree_tokens, open_tokens, closing, key_fits, IsClosable, waits};
+ghost use Rattle.jl_token.specs.Trees.{AddsTo, NoneLeft, value_tokens, open_tokens, closing, key_fits, IsClosable, waits};
 
 use jl_model::{Items, Json, Member, Members, NoMemory, Text};
 use std::alloc::Global;
@@ -80,7 +79,7 @@ impl OpenTrees {
 
     /// Takes the innermost one out.
     pub fn pop(&mut self) -> Option<OpenTree>
-        ensures { MatchOption result ((self.old ≡ []) × (self.new ≡ [])) (λ container. self.old ≡ container ∷ self.new) }
+        ensures { MatchOption result (NoneLeft self.old self.new) (λ x. self.old ≡ x ∷ self.new) }
     {
         self.list.pop()
     }
@@ -115,7 +114,7 @@ impl OpenTree {
     /// Adds an item, or the value of the key that waits.
     pub(crate) fn add(&mut self, value: Json) -> Result<(), NoMemory>
         requires { waits self.old ≡ true }
-        ensures { OnOk result (open_tokens self.new ≡ open_tokens self.old ++ tree_tokens (tree_of value) []) }
+        ensures { OnOk result (AddsTo self.old self.new (value_tokens value)) }
     {
         match self {
             OpenTree::Array { items, .. } => {
@@ -136,7 +135,7 @@ impl OpenTree {
     #[tactic(auto, using(crate::proofs::GrowingTrees::key_read))]
     pub(crate) fn set_key(&mut self, at: u64, name: Text)
         requires { key_fits self.old ≡ true }
-        ensures { open_tokens self.new ≡ open_tokens self.old ++ tokens.Key at name ∷ [] }
+        ensures { AddsTo self.old self.new (tokens.Key at name ∷ []) }
     {
         match self {
             OpenTree::Array { .. } => unreachable!(),
@@ -148,7 +147,7 @@ impl OpenTree {
     /// The whole container.
     pub(crate) fn into_json(self) -> Json
         requires { IsClosable self }
-        ensures { tree_tokens (tree_of result) [] ≡ open_tokens self ++ closing self ∷ [] }
+        ensures { value_tokens result ≡ open_tokens self ++ closing self ∷ [] }
     {
         match self {
             OpenTree::Array { at, items } => Json::array(at, items),

@@ -1,10 +1,9 @@
 //! What a tree that is being built keeps.
 ghost use Rattle.std.specs.Prelude.{◌≡◌, ◌++◌, ◌↔◌, IsTrue, true, false, OnOk, [], ◌∷◌};
 ghost use Rattle.std.specs.List.{list_all};
-ghost use Rattle.jl_model.specs.JsonView.{tree_of};
 ghost use Rattle.jl_model.specs.declared.tokens.Token.TheVariants as tokens;
 ghost use Rattle.jl_token.specs.declared.tree_states.Growth.TheVariants as growth;
-ghost use Rattle.jl_token.specs.Trees.{tree_tokens, open_tokens, around_tokens, growth_tokens, state_tokens, closing_at, waits, takes, takes_key, waits_at, IsInside, IsClosableAt, IsFormed, IsFormedAt};
+ghost use Rattle.jl_token.specs.Trees.{Adds, value_tokens, open_tokens, around_tokens, growth_tokens, closing_at, waits, takes, takes_key, waits_at, IsInside, IsClosableAt, IsFormed, IsFormedAt};
 
 use crate::open_trees::{OpenTree, OpenTrees};
 use jl_model::{Json, NoMemory, Text, Token};
@@ -84,7 +83,7 @@ impl TreeState {
     pub(crate) fn put(&mut self, value: Json) -> Result<(), NoMemory>
         requires waits { waits_at self.old.growth ≡ true }
         requires formed { IsFormedAt self.old.growth self.old.around }
-        ensures tokens { OnOk result (state_tokens self.new ≡ state_tokens self.old ++ tree_tokens (tree_of value) []) }
+        ensures tokens { OnOk result (Adds self.old self.new (value_tokens value)) }
         ensures formed { OnOk result (IsFormedAt self.new.growth self.new.around) }
         ensures kept { self.new.short ≡ self.old.short }
     {
@@ -103,7 +102,7 @@ impl TreeState {
     pub(crate) fn step_in(&mut self, container: OpenTree) -> Result<(), NoMemory>
         requires waits { waits_at self.old.growth ≡ true }
         requires formed { IsFormedAt self.old.growth self.old.around }
-        ensures tokens { OnOk result (state_tokens self.new ≡ state_tokens self.old ++ open_tokens container) }
+        ensures tokens { OnOk result (Adds self.old self.new (open_tokens container)) }
         ensures formed { OnOk result (IsFormedAt self.new.growth self.new.around) }
         ensures kept { self.new.short ≡ self.old.short }
     {
@@ -119,7 +118,7 @@ impl TreeState {
         requires inside { IsInside self.old.growth }
         requires formed { IsFormedAt self.old.growth self.old.around }
         ensures container { self.old.growth ≡ growth.Inside result }
-        ensures tokens { state_tokens self.old ≡ state_tokens self.new ++ open_tokens result }
+        ensures tokens { Adds self.new self.old (open_tokens result) }
         ensures waits { waits_at self.new.growth ≡ true }
         ensures formed { IsFormedAt self.new.growth self.new.around }
         ensures kept { self.new.short ≡ self.old.short }
@@ -137,7 +136,7 @@ impl TreeState {
         requires inside { IsInside self.old.growth }
         requires closable { IsClosableAt self.old.growth }
         requires formed { IsFormedAt self.old.growth self.old.around }
-        ensures tokens { OnOk result (state_tokens self.new ≡ state_tokens self.old ++ closing_at self.old.growth ∷ []) }
+        ensures tokens { OnOk result (Adds self.old self.new (closing_at self.old.growth ∷ [])) }
         ensures formed { OnOk result (IsFormedAt self.new.growth self.new.around) }
         ensures kept { self.new.short ≡ self.old.short }
     {
@@ -150,7 +149,7 @@ impl TreeState {
     pub(crate) fn set_key(&mut self, at: u64, name: Text)
         requires key { takes_key self.old.growth ≡ true }
         requires formed { IsFormedAt self.old.growth self.old.around }
-        ensures tokens { state_tokens self.new ≡ state_tokens self.old ++ tokens.Key at name ∷ [] }
+        ensures tokens { Adds self.old self.new (tokens.Key at name ∷ []) }
         ensures formed { IsFormedAt self.new.growth self.new.around }
         ensures kept { self.new.short ≡ self.old.short }
     {

@@ -1,11 +1,6 @@
 //! The tree of tokens.
-ghost use Rattle.std.specs.Prelude.{◌≡◌, ◌++◌, ◌↔◌, IsSome, IfSome, IsTrue, true, false, OnOk, OnErr, IsErr, ℕ, List, [], ◌∷◌};
-ghost use Rattle.jl_model.specs.declared.tokens.Token.{Token};
-ghost use Rattle.jl_model.specs.JsonText.{Reads};
-ghost use Rattle.jl_model.specs.JsonTree as spec;
-ghost use Rattle.jl_model.specs.JsonView.{tree_of};
-ghost use Rattle.jl_token.specs.declared.tree_states.TreeState.{TreeState};
-ghost use Rattle.jl_token.specs.Trees.{AreTokensOf, Begin, HasRead, CanTake, IsFormed, IsFormedAt, IsWhole, shown, state_tokens, takes, tree_tokens};
+ghost use Rattle.std.specs.Prelude.{◌≡◌, ◌↔◌, IsSome, IfSome, IsTrue, true, false, OnOk, OnErr, IsErr, [], ◌∷◌};
+ghost use Rattle.jl_token.specs.Trees.{HasRead, ReadsOn, IsTreeOf, Adds, CanTake, IsFormed, IsFormedAt, IsWhole, TakenBegins, BegunMayCome, ReadIsWhole, OneTree, TreeOfText, shown, state_tokens, takes, value_tokens};
 
 use crate::open_trees::{OpenTree, OpenTrees};
 use crate::tree_states::{Growth, TreeState};
@@ -87,7 +82,7 @@ impl Tree {
     /// call answers that again.
     pub fn push(&mut self, alloc: Global, token: Token) -> Result<(), NoMemory>
         requires { CanTake self.old token }
-        ensures read { OnOk result ((read : List Token) → HasRead read self.old → HasRead (read ++ token ∷ []) self.new) }
+        ensures read { OnOk result (ReadsOn self.old self.new token) }
         ensures goes_on { OnOk result (self.new.short ≡ false) }
         ensures stops { OnErr result (self.new.short ≡ true) }
         ensures again { self.old.short ≡ true → IsErr result × (self.new ≡ self.old) }
@@ -107,7 +102,7 @@ impl Tree {
     /// The tree of the tokens, which is whole. It takes no memory.
     pub fn finish(self) -> Json
         requires { IsWhole self }
-        ensures { (read : List Token) → HasRead read self → AreTokensOf (tree_of result) read }
+        ensures { IsTreeOf result self }
     {
         self.state.into_whole()
     }
@@ -117,7 +112,7 @@ impl TreeState {
     /// The whole tree.
     fn into_whole(self) -> Json
         requires { IsWhole self }
-        ensures { tree_tokens (tree_of result) [] ≡ state_tokens self }
+        ensures { value_tokens result ≡ state_tokens self }
     {
         let TreeState { growth, .. } = self;
         match growth {
@@ -130,7 +125,7 @@ impl TreeState {
     fn take(&mut self, alloc: Global, token: Token) -> Result<(), NoMemory>
         requires takes { takes self.old.growth token ≡ true }
         requires formed { IsFormedAt self.old.growth self.old.around }
-        ensures tokens { OnOk result (state_tokens self.new ≡ state_tokens self.old ++ shown token ∷ []) }
+        ensures tokens { OnOk result (Adds self.old self.new (shown token ∷ [])) }
         ensures formed { OnOk result (IsFormedAt self.new.growth self.new.around) }
         ensures kept { self.new.short ≡ self.old.short }
     {
@@ -158,18 +153,18 @@ impl TreeState {
 /// where they are those of a tree.
 #[tactic(auto, using(crate::proofs::TreeEndings::begun, crate::proofs::TreePlaces::may_begin, crate::proofs::TreePlaces::is_whole))]
 pub fn law_begun()
-    ensures begins { (s : TreeState) (read : List Token) (token : Token) → IsFormed s → HasRead read s → takes s.growth token ≡ true → Begin (read ++ token ∷ []) }
-    ensures comes { (s : TreeState) (read : List Token) (token : Token) → IsFormed s → HasRead read s → Begin (read ++ token ∷ []) → takes s.growth token ≡ true }
-    ensures whole { (s : TreeState) (read : List Token) (tree : spec.Tree) → IsFormed s → HasRead read s → AreTokensOf tree read → IsWhole s }
+    ensures begins { TakenBegins }
+    ensures comes { BegunMayCome }
+    ensures whole { ReadIsWhole }
 {}
 
 /// Tokens are those of one tree at most.
 #[tactic(auto, using(crate::proofs::OneOfTokens::one_tree))]
 pub fn law_one_tree()
-    ensures { (tree other : spec.Tree) (read : List Token) → AreTokensOf tree read → AreTokensOf other read → tree ≡ other }
+    ensures { OneTree }
 {}
 
 /// The tokens of a readable text are those of its tree.
 pub fn law_tree_of_text()
-    ensures { (start : ℕ) (text : List ℕ) (tree : spec.Tree) (tokens : List Token) → Reads start text tree tokens → AreTokensOf tree tokens }
+    ensures { TreeOfText }
 {}
