@@ -2,6 +2,7 @@ pub mod KeyClasses
 pub mod LateKeys
 pub mod Lists
 pub mod Readings
+pub mod HeldMarks
 pub mod KeepsMarked
 pub mod KeepsSpots
 pub mod KeepsOpens

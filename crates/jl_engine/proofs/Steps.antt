@@ -100,6 +100,11 @@ pub tells_one : (result : Result (Unit {0}) FrameStop) (e : EngineState) (event 
     Tells result (event ∷ []) quads now e (record e { reader = new })
 tells_one result e event quads now new h = record { reads = subst (λ t. Reads result quads t now new) (sym (one_step (context_of e.context) event e.reader)) h; kept = refl }
 
+-- the same of an equal event
+pub tells_as : (result : Result (Unit {0}) FrameStop) (e : EngineState) (given event : Event) (quads now : List Parts) (new : Reader) → given ≡ event → Reads result quads (step (context_of e.context) given e.reader) now new →
+    Tells result (event ∷ []) quads now e (record e { reader = new })
+tells_as result e given event quads now new same h = tells_one result e event quads now new (subst (λ x. Reads result quads (step (context_of e.context) x e.reader) now new) same h)
+
 -- some tokens, and then others
 pub tells_both : (result : Result (Unit {0}) FrameStop) (xs ys zs : List Token) (quads mid now : List Parts) (old between new : EngineState) → (h : Tells (Ok tt) (events_of xs) quads mid old between) → zs ≡ ys →
     Tells result (events_of zs) mid now between new → Tells result (events_of (xs ++ ys)) quads now old new

@@ -1,4 +1,5 @@
 pub mod TreeEvents
+pub mod Marks
 pub mod Moves
 pub mod Leads
 pub mod Reading

@@ -30,8 +30,8 @@ pub fn expand_type(alloc: Global, context: &Context, name: Text) -> Result<Expan
 /// What a key is for, in each context that has no terms: there no key but a keyword expands to one.
 /// It takes no memory.
 #[tactic(auto, using(crate::proofs::KeyClasses::key_class))]
-pub fn class_of_key(name: &Text) -> Class
+pub fn class_of_key(name: &[u8]) -> Class
     ensures { (context : SpecContext) → result ≡ class_of (key_of (context_of context) name.now) }
 {
-    class_of_keyword(name.bytes())
+    class_of_keyword(name)
 }

@@ -3,6 +3,7 @@ ghost use Rattle.std.specs.Prelude.{◌≡◌, ◌<◌, ◌≤◌, [], ◌∷◌
 ghost use Rattle.std.specs.Prelude.{true, false, OnOk, IfOk, IfErr, IfSome, IsSome};
 ghost use Rattle.jl_model.specs.declared.scalars.Scalar.TheVariants as scalars;
 ghost use Rattle.jl_token.specs.Lexed.{number_of, token_of, told};
+ghost use Rattle.jl_engine.specs.Marks.{event_lent, scalar_lent};
 ghost use Rattle.jl_engine.specs.Putting.{Leaves};
 ghost use Rattle.jl_engine.specs.Saying.{key_read, scalar_read, Tells, SaysTo, GoesOn};
 ghost use Rattle.jl_engine.specs.Saying.{IsFed, IsStopped, IsFinished, IsStoppedAtEnd};
@@ -11,12 +12,12 @@ ghost use Rattle.jl_engine.specs.TreeEvents.{events_of};
 ghost use Rattle.jl_engine.specs.declared.events.Event.TheVariants as events;
 
 use crate::engines::EngineState;
-use crate::events::Event;
+use crate::lents::{Lent, LentScalar};
 use crate::outs::put_all;
 use crate::quads::Quads;
 use crate::stops::Stop;
 use jl_frames::FrameStop;
-use jl_model::{NoMemory, QuadOut, Scalar, Token};
+use jl_model::{QuadOut, Token};
 use jl_token::{Next, Sign, Signs};
 use std::alloc::Global;
 
@@ -189,9 +190,9 @@ impl EngineState {
             Sign::CloseObject | Sign::CloseArray => self.tell_closing(alloc, quads),
             Sign::Key => self.tell_name(alloc, quads),
             Sign::Text => self.tell_string(alloc, quads),
-            Sign::Null => self.tell_scalar(alloc, Scalar::Null, quads),
-            Sign::True => self.tell_scalar(alloc, Scalar::Bool(true), quads),
-            Sign::False => self.tell_scalar(alloc, Scalar::Bool(false), quads),
+            Sign::Null => self.tell_word(alloc, LentScalar::Null, quads),
+            Sign::True => self.tell_word(alloc, LentScalar::Bool(true), quads),
+            Sign::False => self.tell_word(alloc, LentScalar::Bool(false), quads),
         }
     }
 
@@ -200,7 +201,7 @@ impl EngineState {
     fn tell_object(&mut self, alloc: Global, at: u64, quads: &mut Quads) -> Result<(), FrameStop>
         ensures { Tells result (events.OpensObject at ∷ []) quads.old quads.new self.old self.new }
     {
-        self.tell_event(alloc, Event::OpensObject { at }, quads)
+        self.tell_event(alloc, Lent::OpensObject { at }, quads)
     }
 
     /// Tells that an array opens at this place.
@@ -208,7 +209,7 @@ impl EngineState {
     fn tell_array(&mut self, alloc: Global, at: u64, quads: &mut Quads) -> Result<(), FrameStop>
         ensures { Tells result (events.OpensArray at ∷ []) quads.old quads.new self.old self.new }
     {
-        self.tell_event(alloc, Event::OpensArray { at }, quads)
+        self.tell_event(alloc, Lent::OpensArray { at }, quads)
     }
 
     /// Tells that a container closes.
@@ -216,21 +217,20 @@ impl EngineState {
     fn tell_closing(&mut self, alloc: Global, quads: &mut Quads) -> Result<(), FrameStop>
         ensures { Tells result (events.Closes ∷ []) quads.old quads.new self.old self.new }
     {
-        self.tell_event(alloc, Event::Closes, quads)
+        self.tell_event(alloc, Lent::Closes, quads)
     }
 
-    /// Tells the key that was read last, with a copy of its name: the room of what was read
-    /// serves the next token too.
+    /// Tells the key that was read last. Its name is lent: the room of what was read serves the
+    /// next token too.
     #[inline(never)]
     fn tell_name(&mut self, alloc: Global, quads: &mut Quads) -> Result<(), FrameStop>
         ensures { Tells result (key_read self.old.lexer ∷ [])
             quads.old quads.new self.old self.new }
     {
         let at = self.lexer.token_place();
-        match self.lexer.text().copy(alloc) {
-            Ok(name) => self.tell_event(alloc, Event::Key { at, name }, quads),
-            Err(NoMemory) => Err(FrameStop::NoMemory),
-        }
+        let name = self.lexer.text().bytes();
+        let event = Lent::Key { at, name };
+        self.reader.step(alloc, &self.context, event, quads)
     }
 
     /// The same for a string.
@@ -241,17 +241,9 @@ impl EngineState {
             quads.old quads.new self.old self.new }
     {
         let at = self.lexer.token_place();
-        match self.lexer.text().copy(alloc) {
-            Ok(text) => self.tell_event(
-                alloc,
-                Event::Value {
-                    at,
-                    scalar: Scalar::Str(text),
-                },
-                quads,
-            ),
-            Err(NoMemory) => Err(FrameStop::NoMemory),
-        }
+        let scalar = LentScalar::Str(self.lexer.text().bytes());
+        let event = Lent::Value { at, scalar };
+        self.reader.step(alloc, &self.context, event, quads)
     }
 
     /// The same for a number.
@@ -261,25 +253,25 @@ impl EngineState {
             (scalar_read (scalars.Number self.old.lexer.reading.part) self.old.lexer ∷ [])
             quads.old quads.new self.old self.new }
     {
-        match self.lexer.text().copy(alloc) {
-            Ok(digits) => self.tell_scalar(alloc, Scalar::Number(digits), quads),
-            Err(NoMemory) => Err(FrameStop::NoMemory),
-        }
+        let at = self.lexer.token_place();
+        let scalar = LentScalar::Number(self.lexer.text().bytes());
+        let event = Lent::Value { at, scalar };
+        self.reader.step(alloc, &self.context, event, quads)
     }
 
-    /// Tells the scalar that was read last.
+    /// The same for `null`, `true` or `false`.
     #[inline(never)]
-    fn tell_scalar(
+    fn tell_word(
         &mut self,
         alloc: Global,
-        scalar: Scalar,
+        word: LentScalar<'_>,
         quads: &mut Quads,
     ) -> Result<(), FrameStop>
-        ensures { Tells result (scalar_read scalar self.old.lexer ∷ [])
+        ensures { Tells result (scalar_read (scalar_lent word.entry) self.old.lexer ∷ [])
             quads.old quads.new self.old self.new }
     {
         let at = self.lexer.token_place();
-        self.tell_event(alloc, Event::Value { at, scalar }, quads)
+        self.tell_event(alloc, Lent::Value { at, scalar: word }, quads)
     }
 
     /// Tells a token, if there is one.
@@ -295,7 +287,7 @@ impl EngineState {
     {
         match token {
             None => Ok(()),
-            Some(token) => self.tell_event(alloc, Event::of(token), quads),
+            Some(token) => self.tell_event(alloc, Lent::of(&token), quads),
         }
     }
 
@@ -304,10 +296,11 @@ impl EngineState {
     fn tell_event(
         &mut self,
         alloc: Global,
-        event: Event,
+        event: Lent<'_>,
         quads: &mut Quads,
     ) -> Result<(), FrameStop>
-        ensures { Tells result (event ∷ []) quads.old quads.new self.old self.new }
+        ensures { Tells result (event_lent event.entry ∷ [])
+            quads.old quads.new self.old self.new }
     {
         self.reader.step(alloc, &self.context, event, quads)
     }

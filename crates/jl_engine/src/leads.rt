@@ -1,15 +1,17 @@
 //! Objects that are held.
-ghost use Rattle.std.specs.Prelude.{◌≡◌, IfOk, OnOk, suc, false};
+ghost use Rattle.std.specs.Prelude.{◌≡◌, [], IfOk, OnOk, suc, false};
 ghost use Rattle.jl_context.specs.Contexts.{context_of};
 ghost use Rattle.jl_context.specs.declared.contexts.Context.{Context as SpecContext};
 ghost use Rattle.jl_defs.specs.ObjectContexts as contexts;
 ghost use Rattle.jl_engine.specs.Leads as spec;
 ghost use Rattle.jl_engine.specs.Leads.{Answers};
+ghost use Rattle.jl_engine.specs.Marks.{event_lent, scalar_lent};
 
-use crate::events::{Event, Events};
+use crate::events::Events;
 use crate::expansions::class_of_key;
+use crate::lents::{Lent, LentScalar};
 use jl_context::{Context, expand_iri};
-use jl_model::{Code, Expanded, Fault, NoMemory, Scalar, Text};
+use jl_model::{Code, Expanded, Fault, NoMemory};
 use jl_prelude::Class;
 use std::alloc::Global;
 
@@ -75,13 +77,14 @@ pub enum Admit {
 }
 
 impl Lead {
-    /// An object that has just opened. It takes no memory.
-    pub fn begun(alloc: Global, at: u64) -> Lead
+    /// An object that has just opened, with room for its events. It takes no memory.
+    pub fn begun(held: Events, at: u64) -> Lead
+        requires { held ≡ [] }
         ensures { result ≡ spec.begun at }
     {
         Lead {
             at,
-            held: Events::empty(alloc),
+            held,
             name: None,
             named: false,
             valued: false,
@@ -98,22 +101,22 @@ impl Lead {
         &mut self,
         alloc: Global,
         context: &Context,
-        event: &Event,
+        event: Lent<'_>,
     ) -> Result<Admit, NoMemory>
         ensures { IfOk result (λ admit. Answers admit self.old self.new
-            (spec.admits (context_of context.now) event.now self.old)) }
+            (spec.admits (context_of context.now) (event_lent event.entry) self.old)) }
     {
         match event {
-            Event::OpensObject { .. } => self.open_object(),
-            Event::OpensArray { .. } => self.open_array(),
-            Event::Closes => Ok(self.close()),
-            Event::Key { at, name } => Ok(self.take_key(*at, name)),
-            Event::Value { scalar, .. } => self.take_scalar(alloc, context, scalar),
+            Lent::OpensObject { .. } => self.open_object(),
+            Lent::OpensArray { .. } => self.open_array(),
+            Lent::Closes => Ok(self.close()),
+            Lent::Key { at, name } => Ok(self.take_key(at, name)),
+            Lent::Value { scalar, .. } => self.take_scalar(alloc, context, scalar),
         }
     }
 
     /// A key.
-    fn take_key(&mut self, at: u64, name: &Text) -> Admit
+    fn take_key(&mut self, at: u64, name: &[u8]) -> Admit
         ensures { (c : SpecContext) → Answers result self.old self.new
             (spec.key_at self.old.spot (context_of c) at name.now self.old) }
     {
@@ -125,7 +128,7 @@ impl Lead {
     }
 
     /// The key of a member. A context of its own isn't built.
-    fn take_member(&mut self, at: u64, name: &Text) -> Admit
+    fn take_member(&mut self, at: u64, name: &[u8]) -> Admit
         ensures { (c : SpecContext) → Answers result self.old self.new
             (spec.key_between (context_of c) at name.now self.old) }
     {
@@ -259,10 +262,10 @@ impl Lead {
         &mut self,
         alloc: Global,
         context: &Context,
-        scalar: &Scalar,
+        scalar: LentScalar<'_>,
     ) -> Result<Admit, NoMemory>
         ensures { IfOk result (λ admit. Answers admit self.old self.new
-            (spec.scalar_in self.old.spot (context_of context.now) scalar.now self.old)) }
+            (spec.scalar_in self.old.spot (context_of context.now) (scalar_lent scalar.entry) self.old)) }
     {
         match self.spot {
             LeadSpot::Inside(_) => return Ok(Admit::Dropped),
@@ -279,10 +282,10 @@ impl Lead {
         alloc: Global,
         context: &Context,
         class: Class,
-        scalar: &Scalar,
+        scalar: LentScalar<'_>,
     ) -> Result<(), NoMemory>
         ensures { OnOk result (self.new
-            ≡ spec.shows (context_of context.now) class scalar.now self.old) }
+            ≡ spec.shows (context_of context.now) class (scalar_lent scalar.entry) self.old) }
     {
         self.spot = LeadSpot::Between;
         match class {
@@ -304,13 +307,13 @@ impl Lead {
         &mut self,
         alloc: Global,
         context: &Context,
-        scalar: &Scalar,
+        scalar: LentScalar<'_>,
     ) -> Result<(), NoMemory>
         ensures { OnOk result (self.new
-            ≡ spec.named (spec.name_of (context_of context.now) scalar.now) self.old) }
+            ≡ spec.named (spec.name_of (context_of context.now) (scalar_lent scalar.entry)) self.old) }
     {
         let name = match scalar {
-            Scalar::Str(text) => Some(expand_iri(alloc, context, text.bytes(), false, true)?),
+            LentScalar::Str(text) => Some(expand_iri(alloc, context, text, false, true)?),
             _ => None,
         };
         self.show_name(name);
@@ -368,18 +371,18 @@ fn deeper(depth: u64) -> Result<u64, NoMemory>
 }
 
 /// Whether a key is `@context`.
-fn is_context_name(name: &Text) -> bool
+fn is_context_name(name: &[u8]) -> bool
     ensures { result ≡ contexts.is_context_name name.now }
 {
-    name.bytes() == b"@context".as_slice()
+    name == b"@context".as_slice()
 }
 
 /// Whether a scalar is the type `@json`.
-fn is_json(scalar: &Scalar) -> bool
-    ensures { result ≡ spec.is_json scalar.now }
+fn is_json(scalar: LentScalar<'_>) -> bool
+    ensures { result ≡ spec.is_json (scalar_lent scalar.entry) }
 {
     match scalar {
-        Scalar::Str(text) => text.bytes() == b"@json".as_slice(),
+        LentScalar::Str(text) => text == b"@json".as_slice(),
         _ => false,
     }
 }

@@ -2,15 +2,20 @@
 ghost use Rattle.std.specs.Prelude.{◌≡◌};
 ghost use Rattle.jl_context.specs.Contexts.{context_of};
 ghost use Rattle.jl_frames.specs.ReadAs.{read_as};
+ghost use Rattle.jl_engine.specs.Marks.{event_lent, scalar_lent};
+ghost use Rattle.jl_engine.specs.Moves as moves;
+ghost use Rattle.jl_engine.specs.Moves.{Moves};
 ghost use Rattle.jl_engine.specs.Reading as spec;
 ghost use Rattle.jl_engine.specs.Reading.{Reads};
 
-use crate::events::Event;
-use crate::leads::Lead;
-use crate::moves::{close, open_array, open_other, read_key, read_scalar};
+use crate::leadings::Leading;
+use crate::lents::{Lent, LentScalar};
+use crate::moves::{close, open_array, open_other};
 use crate::quads::Quads;
+use crate::tellings::{tell_key, tell_number, tell_text, tell_word};
 use jl_context::Context;
 use jl_frames::{FrameStop, ReadAs, Stack};
+use jl_model::Scalar;
 use std::alloc::Global;
 
 /// What reads the events of a document: the open containers, and the innermost object as long as it
@@ -20,7 +25,7 @@ pub struct Reader {
     /// The open containers, but for the object that is held.
     pub stack: Stack,
     /// The object that is held, if one is.
-    pub lead: Option<Lead>,
+    pub lead: Leading,
 }
 
 impl Reader {
@@ -30,7 +35,7 @@ impl Reader {
     {
         Reader {
             stack: Stack::new(alloc),
-            lead: None,
+            lead: Leading::none(alloc),
         }
     }
 
@@ -41,16 +46,16 @@ impl Reader {
         &mut self,
         alloc: Global,
         context: &Context,
-        event: Event,
+        event: Lent<'_>,
         quads: &mut Quads,
     ) -> Result<(), FrameStop>
         ensures { Reads result quads.old
-            (spec.step (context_of context.now) event self.old) quads.new self.new }
+            (spec.step (context_of context.now) (event_lent event.entry) self.old) quads.new self.new }
     {
-        if self.lead.is_none() {
-            return self.at_here(alloc, context, false, event, quads);
+        if self.lead.is_some() {
+            return self.lead_step(alloc, context, event, quads);
         }
-        self.lead_step(alloc, context, event, quads)
+        self.at_here(alloc, context, false, event, quads)
     }
 
     /// An event where no object is held, of a leading member that is told again or of another.
@@ -60,11 +65,12 @@ impl Reader {
         alloc: Global,
         context: &Context,
         leading: bool,
-        event: Event,
+        event: Lent<'_>,
         quads: &mut Quads,
     ) -> Result<(), FrameStop>
         ensures { Reads result quads.old
-            (spec.at_step (context_of context.now) leading event self.old) quads.new self.new }
+            (spec.at_step (context_of context.now) leading (event_lent event.entry) self.old)
+            quads.new self.new }
     {
         self.at_here(alloc, context, leading, event, quads)
     }
@@ -77,21 +83,22 @@ impl Reader {
         alloc: Global,
         context: &Context,
         leading: bool,
-        event: Event,
+        event: Lent<'_>,
         quads: &mut Quads,
     ) -> Result<(), FrameStop>
         ensures { Reads result quads.old
-            (spec.at_step (context_of context.now) leading event self.old) quads.new self.new }
+            (spec.at_step (context_of context.now) leading (event_lent event.entry) self.old)
+            quads.new self.new }
     {
         match event {
-            Event::OpensObject { at } => self.open_object(alloc, at, quads),
-            Event::OpensArray { at } => open_array(&mut self.stack, quads, at),
-            Event::Closes => close(alloc, &mut self.stack, quads),
-            Event::Key { at, name } => {
-                read_key(alloc, context, leading, at, name, &mut self.stack, quads)
+            Lent::OpensObject { at } => self.open_object(alloc, at, quads),
+            Lent::OpensArray { at } => open_array(&mut self.stack, quads, at),
+            Lent::Closes => close(alloc, &mut self.stack, quads),
+            Lent::Key { at, name } => {
+                tell_key(alloc, context, leading, at, name, &mut self.stack, quads)
             }
-            Event::Value { at, scalar } => {
-                read_scalar(alloc, context, at, scalar, &mut self.stack, quads)
+            Lent::Value { at, scalar } => {
+                tell_scalar(alloc, context, at, scalar, &mut self.stack, quads)
             }
         }
     }
@@ -105,7 +112,7 @@ impl Reader {
             quads.new self.new }
     {
         if takes_value(self.stack.reads_as()) {
-            self.lead = Some(Lead::begun(alloc, at));
+            self.lead.begin(alloc, at);
             return Ok(());
         }
         open_other(&mut self.stack, quads, at)
@@ -119,5 +126,29 @@ fn takes_value(reads: ReadAs) -> bool
     match reads {
         ReadAs::Item | ReadAs::Property => true,
         ReadAs::Types | ReadAs::Keyword | ReadAs::Nothing => false,
+    }
+}
+
+/// A scalar.
+#[inline(always)]
+fn tell_scalar(
+    alloc: Global,
+    context: &Context,
+    at: u64,
+    scalar: LentScalar<'_>,
+    stack: &mut Stack,
+    quads: &mut Quads,
+) -> Result<(), FrameStop>
+    ensures { Moves result quads.old
+        (moves.takes_scalar (context_of context.now) at (scalar_lent scalar.entry) stack.old)
+        quads.new stack.new }
+{
+    match scalar {
+        LentScalar::Null => tell_word(alloc, context, at, Scalar::Null, stack, quads),
+        LentScalar::Bool(truth) => {
+            tell_word(alloc, context, at, Scalar::Bool(truth), stack, quads)
+        }
+        LentScalar::Number(digits) => tell_number(alloc, context, at, digits, stack, quads),
+        LentScalar::Str(text) => tell_text(alloc, context, at, text, stack, quads),
     }
 }

@@ -1,14 +1,17 @@
 //! Events inside an object that is held, and those that decide it.
-ghost use Rattle.std.specs.Prelude.{◌≡◌, Some, OnOk, IfOk, IfSome, IsSome};
+ghost use Rattle.std.specs.Prelude.{◌≡◌, IfOk, IfSome, IsSome};
 ghost use Rattle.jl_context.specs.Contexts.{context_of};
 ghost use Rattle.jl_frames.specs.Machine as frames;
-ghost use Rattle.jl_engine.specs.Leads.{Answers, admits, decides, frame_by};
+ghost use Rattle.jl_engine.specs.Leads.{decides, frame_by};
+ghost use Rattle.jl_engine.specs.Marks.{event_lent, marked};
 ghost use Rattle.jl_engine.specs.Moves.{Moves};
 ghost use Rattle.jl_engine.specs.Reading as spec;
 ghost use Rattle.jl_engine.specs.Reading.{Reads};
 
-use crate::events::{Event, Events};
+use crate::events::Events;
 use crate::leads::{Admit, Lead};
+use crate::lents::Lent;
+use crate::marks::{Mark, text_and_rest};
 use crate::moves::{enter, not_yet};
 use crate::names::term_of_node;
 use crate::quads::Quads;
@@ -25,48 +28,22 @@ impl Reader {
         &mut self,
         alloc: Global,
         context: &Context,
-        event: Event,
+        event: Lent<'_>,
         quads: &mut Quads,
     ) -> Result<(), FrameStop>
         requires { IsSome self.old.lead }
         ensures { Reads result quads.old
-            (spec.step_by self.old.lead (context_of context.now) event self.old)
+            (spec.step_by self.old.lead (context_of context.now) (event_lent event.entry) self.old)
             quads.new self.new }
     {
-        match self.admit(alloc, context, &event)? {
+        match self.lead.admit(alloc, context, event)? {
             Admit::Held => {
-                self.hold(event)?;
+                self.lead.hold(event)?;
                 Ok(())
             }
             Admit::Dropped => Ok(()),
             Admit::Decides => self.decide(alloc, context, event, quads),
             Admit::Refused(fault) => Err(FrameStop::Refused(fault)),
-        }
-    }
-
-    /// What the event does in the object that is held, which notes what the event shows.
-    fn admit(&mut self, alloc: Global, context: &Context, event: &Event) -> Result<Admit, NoMemory>
-        requires { IsSome self.old.lead }
-        ensures answers { IfOk result (λ admit. IfSome self.old.lead (λ old. IfSome self.new.lead
-            (λ new. Answers admit old new (admits (context_of context.now) event.now old)))) }
-        ensures held { IsSome self.new.lead }
-        ensures stack { self.new.stack ≡ self.old.stack }
-    {
-        match &mut self.lead {
-            Some(lead) => lead.admit(alloc, context, event),
-            None => unreachable!(),
-        }
-    }
-
-    /// The event is held.
-    fn hold(&mut self, event: Event) -> Result<(), NoMemory>
-        requires { IsSome self.old.lead }
-        ensures { OnOk result (IfSome self.old.lead
-            (λ lead. self.new ≡ record self.old { lead = Some (spec.held_with event lead) })) }
-    {
-        match &mut self.lead {
-            Some(lead) => lead.held.push(event),
-            None => unreachable!(),
         }
     }
 
@@ -76,12 +53,12 @@ impl Reader {
         &mut self,
         alloc: Global,
         context: &Context,
-        event: Event,
+        event: Lent<'_>,
         quads: &mut Quads,
     ) -> Result<(), FrameStop>
         requires { IsSome self.old.lead }
         ensures { IfSome self.old.lead (λ lead. Reads result quads.old
-            (spec.by_admits decides (context_of context.now) event lead self.old)
+            (spec.by_admits decides (context_of context.now) (event_lent event.entry) lead self.old)
             quads.new self.new) }
     {
         match self.lead.take() {
@@ -96,11 +73,11 @@ impl Reader {
         alloc: Global,
         context: &Context,
         lead: Lead,
-        event: Event,
+        event: Lent<'_>,
         quads: &mut Quads,
     ) -> Result<(), FrameStop>
         ensures { Reads result quads.old
-            (spec.settles_then (context_of context.now) event lead self.old)
+            (spec.settles_then (context_of context.now) (event_lent event.entry) lead self.old)
             quads.new self.new }
     {
         match self.settle(alloc, context, lead, quads) {
@@ -132,13 +109,13 @@ impl Reader {
             return Err(not_yet(at));
         }
         match enter_object(alloc, at, name, valued, &mut self.stack, quads) {
-            Ok(()) => self.replay(alloc, context, held, quads),
+            Ok(()) => self.tell_held(alloc, context, held, quads),
             Err(stop) => Err(stop),
         }
     }
 
-    /// What was held is told.
-    fn replay(
+    /// What was held is told. Its room serves the next object.
+    fn tell_held(
         &mut self,
         alloc: Global,
         context: &Context,
@@ -148,10 +125,32 @@ impl Reader {
         ensures { Reads result quads.old
             (spec.replay (context_of context.now) held self.old) quads.new self.new }
     {
-        for event in held.into_vec() {
-            if let Err(stop) = self.at_step(alloc, context, true, event, quads) {
+        let (marks, bytes) = held.parts();
+        let answer = self.replay(alloc, context, marks, bytes, quads);
+        self.lead.keep(held);
+        answer
+    }
+
+    /// Events are told whose texts stand one after another.
+    fn replay(
+        &mut self,
+        alloc: Global,
+        context: &Context,
+        marks: &[Mark],
+        bytes: &[u8],
+        quads: &mut Quads,
+    ) -> Result<(), FrameStop>
+        ensures { Reads result quads.old
+            (spec.replay (context_of context.now) (marked marks.now bytes.now) self.old)
+            quads.new self.new }
+    {
+        let mut rest = bytes;
+        for mark in marks {
+            let (text, more) = text_and_rest(rest, mark.len);
+            if let Err(stop) = self.at_step(alloc, context, true, mark.event(text), quads) {
                 return Err(stop);
             }
+            rest = more;
         }
         Ok(())
     }

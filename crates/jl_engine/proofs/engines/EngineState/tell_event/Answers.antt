@@ -1,5 +1,6 @@
+use Rattle.jl_engine.specs.Marks.{event_lent}
 use Rattle.jl_engine.proofs.Steps.{tells_one}
 use Rattle.jl_engine.proofs.engines.EngineState.tell_event.Goals as goal
 
 pub returns : goal.returns
-returns c = tells_one c.step.result c.args.self.now c.args.event c.args.quads.now c.step.new.quads c.step.new.self c.step.ensures
+returns c = tells_one c.step.result c.args.self.now (event_lent c.args.event) c.args.quads.now c.step.new.quads c.step.new.self c.step.ensures
