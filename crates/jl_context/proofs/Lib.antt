@@ -1,2 +1,9 @@
+pub mod Bools
+pub mod ChainLemmas
 pub mod Colons
 pub mod Expanding
+pub mod LayerLemmas
+pub mod NameOrder
+pub mod Naming
+pub mod SortedTerms
+pub mod TermSums

@@ -2,3 +2,12 @@ pub mod Compacts
 pub mod Keywords
 pub mod Names
 pub mod Contexts
+pub mod TreeCode
+pub mod Sizes
+pub mod Layers
+pub mod Counted
+pub mod Held
+pub mod Shared
+pub mod Levels
+pub mod Chains
+pub mod TermNames

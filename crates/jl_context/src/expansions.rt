@@ -91,7 +91,7 @@ fn move_by_base(
 
 /// Whether a text with a colon is an answer as it stands: a blank node, an IRI with an authority,
 /// or another IRI. No context has prefixes. Most such texts show it by their first bytes.
-fn is_whole(text: &[u8]) -> bool
+pub fn is_whole(text: &[u8]) -> bool
     ensures { result ≡ whole text.now (spec.compact text.now) }
 {
     begins_as_usual(text) || is_whole_behind_colon(text)
