@@ -1,12 +1,11 @@
 -- What layers hold, by looking names up.
-use Rattle.std.proofs.Common.{◌≡◌, ◌⊎◌, ◌<◌, ◌+◌, arith, length, drop, get_or, slice_index_or, slice_set, drop-cons, ℕ, suc, inl, inr, refl, sym, ap, subst, ◌∙◌, Bool, true, false, cond, List, [], ◌∷◌, ◌++◌, map, Option, Some, None, bytes_eq, option_map, is_some, Vec, Global}
+use Rattle.std.proofs.Common.{◌≡◌, ◌⊎◌, ◌<◌, arith, length, drop, get_or, slice_index_or, slice_set, drop-cons, ℕ, suc, inl, inr, refl, sym, ap, subst, ◌∙◌, Bool, true, false, cond, List, [], ◌∷◌, ◌++◌, map, Option, Some, None, bytes_eq, option_map, is_some, Vec, Global}
 use Rattle.std.specs.declared.rc.Rc.{Rc}
 use Rattle.std.specs.Rc.{rc_with_value}
 use Rattle.std.specs.Map as tables
 use Rattle.std.specs.Map.{KeepsOthers}
-use Rattle.std.specs.Option.{option_copied}
 use Rattle.jl_defs.specs.Texts.{Text}
-use Rattle.jl_defs.specs.Context.{Named, TermDef, lookup, put, without}
+use Rattle.jl_defs.specs.Context.{Named, TermDef, lookup}
 use Rattle.jl_context.specs.Layers.{or_slot, Adds, Shared, Slots, slots_of, seen, raw_slot, slot, Changes, change, over, layered, layers_in, terms_of}
 use Rattle.jl_context.specs.declared.layers.Layer.{Layer}
 use Rattle.jl_context.proofs.Bools.{true-false, picked-true, picked-false, choice}

@@ -5,5 +5,6 @@ pub mod Expanding
 pub mod LayerLemmas
 pub mod NameOrder
 pub mod Naming
+pub mod NextLemmas
 pub mod SortedTerms
 pub mod TermSums

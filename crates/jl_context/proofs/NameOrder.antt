@@ -1,8 +1,8 @@
 -- Names in the order of their bytes.
-use Rattle.std.proofs.Common.{ℕ, ◌<◌, ◌==◌, nat_lt, ◌≡◌, ◌⊎◌, inl, inr, refl, sym, ◌∙◌, subst, Bool, true, false, ◌&&◌, [], ◌∷◌, arith}
+use Rattle.std.proofs.Common.{ℕ, ◌<◌, ◌==◌, nat_lt, ◌≡◌, ◌⊎◌, inl, inr, refl, sym, ◌∙◌, Bool, true, false, ◌&&◌, [], ◌∷◌, arith}
 use Rattle.std.proofs.lemmas.Bool.{ltb-true, ltb-false, lt-ltb, eqb-true, eq-eqb}
 use Rattle.jl_defs.specs.Texts.{Text, is_before}
-use Rattle.jl_context.proofs.Bools.{true-false, or-left, or-right, or-true, and-left, and-right}
+use Rattle.jl_context.proofs.Bools.{or-left, or-right, or-true, and-left, and-right}
 
 abbrev pub Before : Text → Text → Type 0
 Before [] [] = ⊥

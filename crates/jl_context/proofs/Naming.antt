@@ -1,10 +1,10 @@
 -- IRI expansion over terms, taken apart into what the terms say and what is left.
-use Rattle.std.proofs.Common.{◌≡◌, ℕ, Bool, true, false, ◌||◌, List, [], ap, refl, sym, ◌∙◌, inl, inr, Option, Some, None}
+use Rattle.std.proofs.Common.{◌≡◌, Bool, true, false, ◌||◌, [], ap, refl, sym, ◌∙◌, inl, inr, Option, Some, None}
 use Rattle.std.proofs.lemmas.Bool.{cases_Bool}
 use Rattle.jl_model.specs.declared.expansions.Expanded.{Expanded}
 use Rattle.jl_model.specs.declared.expansions.Expanded.TheVariants.{Null, Keyword, Name}
 use Rattle.jl_defs.specs.Texts.{Text, is_keyword, has_keyword_form, is_iri}
-use Rattle.jl_defs.specs.Context.{Context, Named, lookup, term}
+use Rattle.jl_defs.specs.Context.{Context, lookup, term}
 use Rattle.jl_defs.specs.IriExpansion.{Compact, compact, has_no_prefix, by_term, prefix_mapping, by_vocab, by_iri, by_prefix, by_name, expand_iri}
 use Rattle.jl_context.specs.Names.{whole}
 use Rattle.jl_context.specs.TermNames.{joined, by_compact, or_else, from_terms, without_terms}

@@ -10,9 +10,11 @@ onto zero rs others = others
 onto (suc n) [] others = others
 onto (suc n) (r ∷ rs) others = onto n rs (r.value ∷ others)
 
+-- the levels of a chain, the newest first
 abbrev pub levels_of : ℕ → List (Rc Level Global) → List Level
 levels_of count rs = onto count rs []
 
+-- the newest level, and the levels behind it
 abbrev pub first_of : List Level → Option Level
 first_of [] = None
 first_of (l ∷ ls) = Some l
@@ -21,6 +23,7 @@ abbrev pub rest_of : List Level → List Level
 rest_of [] = []
 rest_of (l ∷ ls) = ls
 
+-- the levels of handles
 abbrev pub values : List (Rc Level Global) → List Level
 values rs = map (λ r. r.value) rs
 

@@ -41,8 +41,6 @@ pub record Move (s old new moved : Sums) : Type 0 where
   pub protected : moved.protected + old.protected ≡ s.protected + new.protected
   pub scoped : moved.scoped + old.scoped ≡ s.scoped + new.scoped
 
-abbrev pub is_protected : Named → Bool
-is_protected e = e.term.protected
-
+-- a term has a scoped context
 abbrev pub is_scoped : Named → Bool
 is_scoped e = is_some e.term.scoped

@@ -1,10 +1,10 @@
 -- What layers of definitions mean: the sorted list of terms that a context has (JSON-LD 1.1 API, section 4.1).
-use Rattle.std.specs.Prelude.{◌≡◌, ℕ, Bool, true, false, List, [], ◌∷◌, Option, Some, None, bytes_eq, map, option_map, Vec}
+use Rattle.std.specs.Prelude.{◌≡◌, ℕ, true, false, List, [], ◌∷◌, Option, Some, None, bytes_eq, map, option_map, Vec}
 use Rattle.std.specs.declared.alloc.Global.{Global}
 use Rattle.std.specs.declared.rc.Rc.{Rc}
 use Rattle.std.specs.Map as tables
 use Rattle.jl_defs.specs.Texts.{Text}
-use Rattle.jl_defs.specs.Context.{Named, TermDef, lookup, put, without}
+use Rattle.jl_defs.specs.Context.{Named, TermDef, put, without}
 use Rattle.jl_context.specs.declared.layers.Layer.{Layer}
 
 -- a definition that contexts share

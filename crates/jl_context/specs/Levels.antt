@@ -1,5 +1,4 @@
 -- A level of which one part is set.
-use Rattle.std.specs.Prelude.{Option}
 use Rattle.jl_defs.specs.Context.{Level}
 use Rattle.jl_context.specs.Shared.{bare}
 use Rattle.jl_context.specs.declared.levels.Part.{Part}

@@ -11,3 +11,4 @@ pub mod Shared
 pub mod Levels
 pub mod Chains
 pub mod TermNames
+pub mod NextTerms

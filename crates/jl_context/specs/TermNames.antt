@@ -1,5 +1,5 @@
 -- Parts of IRI expansion over terms that serve private clauses alone.
-use Rattle.std.specs.Prelude.{ℕ, Bool, true, false, List, ◌++◌, Option, Some, None}
+use Rattle.std.specs.Prelude.{Bool, true, false, ◌++◌, Option, Some, None}
 use Rattle.jl_model.specs.declared.expansions.Expanded.{Expanded}
 use Rattle.jl_model.specs.declared.expansions.Expanded.TheVariants.{Null, Keyword, Name}
 use Rattle.jl_defs.specs.Texts.{Text, is_keyword}

@@ -5,7 +5,9 @@ ghost use Rattle.std.specs.List.{list_any};
 ghost use Rattle.std.specs.Option.{option_copied};
 ghost use Rattle.jl_defs.specs.Context as spec;
 ghost use Rattle.jl_defs.specs.TermDefs.{term_of};
-ghost use Rattle.jl_context.specs.Counted.{is_protected, is_scoped};
+ghost use Rattle.jl_defs.specs.Process.{is_protected};
+ghost use Rattle.jl_context.specs.Counted.{is_scoped};
+ghost use Rattle.jl_context.specs.NextTerms.{named, next_named};
 
 use super::chains::Chain;
 pub use super::definitions::Definition;
@@ -97,6 +99,18 @@ impl Context {
         ensures { option_map (λ d. d.now.value) result ≡ spec.term self.now name.now }
     {
         self.level.as_ref().term(name)
+    }
+
+    /// The term with the least name above another, or the least of all, and its definition; nothing
+    /// where there is none. Names are in the order of their bytes. It looks at every term.
+    pub fn next_term(&self, after: Option<&[u8]>) -> Option<(&[u8], &TermDef)>
+        ensures { option_map (λ p. named p.0.now (term_of p.1.now)) result
+            ≡ next_named self.now.level.terms (option_copied after.entry) }
+    {
+        match self.level.as_ref().next_term(after) {
+            Some((name, definition)) => Some((name, definition.as_ref().def())),
+            None => None,
+        }
     }
 
     /// Whether no term was ever put in.

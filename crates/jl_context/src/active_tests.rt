@@ -115,37 +115,44 @@ fn keep(contexts: &mut Vec<Context>, context: Context) -> Result<(), NoMemory> {
     }
 }
 
-/// A hundred contexts, one inside the other, each with one new term: how many terms the innermost
-/// one finds, and the most layers.
-fn nested(alloc: Global) -> Result<(u64, u64), NoMemory> {
-    let mut outer = Context::initial(alloc, None)?;
+/// A hundred contexts, one inside the other, each with one new term: the outermost but one, the
+/// innermost, and the most layers that one has.
+fn nested(alloc: Global) -> Result<(Vec<Context>, Context, u64), NoMemory> {
+    let mut inner = Context::initial(alloc, None)?;
     let mut kept = Vec::new(alloc);
     let mut most = 0;
     for number in 0..100u8 {
-        let mut inner = outer.copy()?;
-        inner.put_term(
+        let mut next = inner.copy()?;
+        next.put_term(
             alloc,
             name(number).as_slice(),
             def(alloc, b"http://t/", false)?,
         )?;
-        most = most.max(inner.layers());
-        keep(&mut kept, outer)?;
-        outer = inner;
+        most = next.layers().max(most);
+        keep(&mut kept, inner)?;
+        inner = next;
     }
-    let mut found = 0;
-    for number in 0..100u8 {
-        if outer.term(name(number).as_slice()).is_some() {
-            found += 1;
-        }
-    }
-    Ok((found, most))
+    Ok((kept, inner, most))
 }
 
 #[test]
 fn a_hundred_nested(rt: HostRuntime) -> Result<(), Fail> {
-    let (found, most) = nested(rt.alloc())?;
-    assert!(rt; found == 100);
+    let (kept, inner, most) = nested(rt.alloc())?;
     assert!(rt; most == 17);
+    let mut after: Option<&[u8]> = None;
+    for number in 0..100u8 {
+        assert!(rt; inner.term(name(number).as_slice()).is_some());
+        let next = inner.next_term(after);
+        assert!(rt; next.is_some());
+        if let Some((text, _)) = next {
+            assert!(rt; text == name(number).as_slice());
+            after = Some(text);
+        }
+    }
+    assert!(rt; inner.next_term(after).is_none());
+    if let Some(outer) = kept.get(1) {
+        assert!(rt; outer.term(b"t00").is_some() && outer.term(b"t01").is_none());
+    }
     Ok(())
 }
 

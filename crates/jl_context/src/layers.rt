@@ -54,7 +54,8 @@ impl Layer {
         ensures { OnOk result
             (Adds (slots_of self.old) name.now (seen value.now) (slots_of self.new)) }
     {
-        if self.slot(name).is_some() {
+        let known = self.slot(name).is_some();
+        if known {
             return Ok(());
         }
         let key = Vec::from_slice(alloc, name)?;

@@ -3,7 +3,9 @@ ghost use Rattle.std.specs.Prelude.{◌≡◌, ◌≤◌, ◌-◌, ◌^◌, [], 
 ghost use Rattle.std.specs.List.{list_any};
 ghost use Rattle.std.specs.Option.{option_copied};
 ghost use Rattle.jl_defs.specs.Context as spec;
-ghost use Rattle.jl_context.specs.Counted.{is_protected, is_scoped};
+ghost use Rattle.jl_defs.specs.Process.{is_protected};
+ghost use Rattle.jl_context.specs.Counted.{is_scoped};
+ghost use Rattle.jl_context.specs.NextTerms.{named, next_named};
 ghost use Rattle.jl_context.specs.Shared.{bare};
 ghost use Rattle.jl_context.specs.Levels.{with_part};
 
@@ -154,6 +156,14 @@ impl Level {
         ensures { option_map (λ d. d.now.value) result ≡ spec.lookup self.now.terms name.now }
     {
         self.terms.get(name)
+    }
+
+    /// The term with the least name above another, or the least of all, and its definition.
+    pub fn next_term(&self, after: Option<&[u8]>) -> Option<(&[u8], &Rc<Definition>)>
+        ensures { option_map (λ p. named p.0.now p.1.now.value) result
+            ≡ next_named self.now.terms (option_copied after.entry) }
+    {
+        self.terms.next(after)
     }
 
     /// Whether no term was ever put in.

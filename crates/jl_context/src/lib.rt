@@ -12,6 +12,7 @@ mod expansions;
 mod keywords;
 mod layers;
 mod levels;
+mod next_terms;
 mod shared_levels;
 mod sizes;
 mod sums;

@@ -1,12 +1,16 @@
 //! The terms of a context, in layers that contexts share.
 ghost use Rattle.std.specs.Prelude.{◌≡◌, ◌≤◌, ◌+◌, [], ◌∷◌, ◌++◌, IfOk, OnOk, OnErr, IsTrue, option_map, length, sum_by};
 ghost use Rattle.std.specs.List.{list_any};
+ghost use Rattle.std.specs.Option.{option_copied};
 ghost use Rattle.jl_defs.specs.Context.{lookup, put, without, named_size};
 ghost use Rattle.jl_context.specs.Layers.{terms_of, layers_in, seen, change, slots_of, over};
-ghost use Rattle.jl_context.specs.Counted.{is_protected, is_scoped, parts};
+ghost use Rattle.jl_defs.specs.Process.{is_protected};
+ghost use Rattle.jl_context.specs.Counted.{is_scoped, parts};
+ghost use Rattle.jl_context.specs.NextTerms.{named, next_named};
 
 use super::definitions::Definition;
 use super::layers::Layer;
+use super::next_terms::next_in;
 use super::sums::{Sums, moved_sums, part_of};
 use jl_model::NoMemory;
 use std::alloc::Global;
@@ -60,6 +64,14 @@ impl Terms {
         find(self.layers.as_slice(), name)
     }
 
+    /// The term with the least name above another, or the least of all, and its definition.
+    pub fn next(&self, after: Option<&[u8]>) -> Option<(&[u8], &Rc<Definition>)>
+        ensures { option_map (λ p. named p.0.now p.1.now.value) result
+            ≡ next_named self.now (option_copied after.entry) }
+    {
+        next_in(self.layers.as_slice(), after)
+    }
+
     /// The same terms, shared: as many handles as there are layers.
     pub fn share(&self, alloc: Global) -> Result<Terms, NoMemory>
         ensures { IfOk result (λ terms. terms ≡ self.now) }
@@ -93,8 +105,8 @@ impl Terms {
         if self.get(name).is_none() {
             return Ok(());
         }
-        let key = Vec::from_slice(alloc, name)?;
-        self.change(alloc, key, None)
+        let gone = Vec::from_slice(alloc, name)?;
+        self.change(alloc, gone, None)
     }
 
     /// Puts a definition in, or takes one out.
@@ -173,7 +185,7 @@ fn new_part(name: &[u8], value: &Option<Rc<Definition>>) -> Result<Sums, NoMemor
 }
 
 /// The definition of a name: what the newest layer says that says anything.
-fn find<'a>(layers: &'a [Rc<Layer>], name: &[u8]) -> Option<&'a Rc<Definition>>
+pub fn find<'a>(layers: &'a [Rc<Layer>], name: &[u8]) -> Option<&'a Rc<Definition>>
     ensures { option_map (λ d. d.now.value) result ≡ lookup (terms_of layers.now) name.now }
 {
     for layer in layers {

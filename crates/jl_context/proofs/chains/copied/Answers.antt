@@ -1,5 +1,4 @@
-use Rattle.std.proofs.Common.{rules, ◌≡◌, ◌<◌, ◌+◌, ℕ, suc, sym, ap, ◌∙◌, arith, length, get_or}
-use Rattle.jl_context.specs.Chains.{values}
+use Rattle.std.proofs.Common.{◌≡◌, ◌<◌, ◌+◌, suc, arith, length}
 use Rattle.jl_context.proofs.ChainLemmas.{copied-more}
 use Rattle.jl_context.proofs.chains.copied.Goals as goal
 

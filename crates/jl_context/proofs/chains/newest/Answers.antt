@@ -1,5 +1,5 @@
-use Rattle.std.proofs.Common.{◌≡◌, ◌<◌, ◌-◌, ℕ, suc, ap, sym, ◌∙◌, arith, length}
-use Rattle.jl_context.specs.Chains.{first_of, levels_of}
+use Rattle.std.proofs.Common.{◌≡◌, ◌<◌, ◌-◌, suc, ap, sym, arith, length}
+use Rattle.jl_context.specs.Chains.{first_of}
 use Rattle.jl_context.proofs.ChainLemmas.{levels-more}
 use Rattle.jl_context.proofs.chains.newest.Goals as goal
 

@@ -1,5 +1,5 @@
-use Rattle.std.proofs.Common.{rules, ◌≡◌, ◌++◌, ◌∷◌, [], ℕ, sym, ap, ◌∙◌, subst, take}
-use Rattle.jl_context.specs.Chains.{IsPushed, values}
+use Rattle.std.proofs.Common.{◌≡◌, ap, ◌∙◌, subst, take}
+use Rattle.jl_context.specs.Chains.{values}
 use Rattle.jl_context.proofs.ChainLemmas.{pushed-on-copy}
 use Rattle.jl_context.proofs.chains.push_copy.Goals as goal
 

@@ -1,6 +1,5 @@
-use Rattle.std.proofs.Common.{rules, ◌≡◌, ◌<◌, ◌++◌, ◌∷◌, [], ℕ, OnOk, Result, Ok, Err, sym, ap, ◌∙◌, arith, length, subst}
+use Rattle.std.proofs.Common.{◌≡◌, ◌++◌, ◌∷◌, [], ap, arith, length, subst}
 use Rattle.jl_context.proofs.Bools.{on-ok}
-use Rattle.jl_context.specs.Chains.{IsPushed}
 use Rattle.jl_context.proofs.ChainLemmas.{pushed-in-place}
 use Rattle.jl_context.proofs.chains.push_in.Goals as goal
 

@@ -1,5 +1,5 @@
-use Rattle.std.proofs.Common.{rules, ◌≡◌, ℕ, sym, ap, subst, ◌∙◌}
-use Rattle.jl_context.specs.Layers.{terms_of, seen, change, Changes, slots_of}
+use Rattle.std.proofs.Common.{sym, ap, subst, ◌∙◌}
+use Rattle.jl_context.specs.Layers.{terms_of, seen, Changes, slots_of}
 use Rattle.jl_context.proofs.Bools.{on-ok}
 use Rattle.jl_context.proofs.LayerLemmas.{layer-begun}
 use Rattle.jl_context.proofs.terms.begin_layer.Goals as goal

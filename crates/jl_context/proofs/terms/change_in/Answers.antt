@@ -1,5 +1,5 @@
-use Rattle.std.proofs.Common.{rules, ◌≡◌, ap, ◌∙◌}
-use Rattle.jl_context.specs.Layers.{terms_of, seen, change}
+use Rattle.std.proofs.Common.{ap, ◌∙◌}
+use Rattle.jl_context.specs.Layers.{seen, change}
 use Rattle.jl_context.proofs.Bools.{on-ok}
 use Rattle.jl_context.proofs.terms.change_in.Goals as goal
 

@@ -1,4 +1,4 @@
-use Rattle.std.proofs.Common.{rules, ◌≡◌, ℕ, sym, ap, subst, ◌∙◌, arith, Some, None, suc, ◌+◌}
+use Rattle.std.proofs.Common.{◌≡◌, sym, ap, subst, ◌∙◌, arith, Some, None, suc, ◌+◌}
 use Rattle.std.specs.Option.{option_copied}
 use Rattle.jl_context.specs.Layers.{raw_slot, slots_of}
 use Rattle.jl_context.proofs.LayerLemmas.{finds-at, skips-at}

@@ -1,5 +1,5 @@
-use Rattle.std.proofs.Common.{rules, ◌≡◌, ℕ, ap, sym, ◌∙◌, suc, ◌+◌, arith, subst}
-use Rattle.jl_context.specs.Layers.{slots_of, slot, or_slot, terms_of, over}
+use Rattle.std.proofs.Common.{◌≡◌, suc, ◌+◌, arith, subst}
+use Rattle.jl_context.specs.Layers.{slots_of, slot, or_slot}
 use Rattle.jl_context.proofs.LayerLemmas.{gathers-at}
 use Rattle.jl_context.proofs.terms.gathered.Goals as goal
 

@@ -1,6 +1,6 @@
-use Rattle.std.proofs.Common.{rules, ◌≡◌, ◌<◌, ℕ, OnOk, Result, Ok, Err, subst, arith, length, refl}
+use Rattle.std.proofs.Common.{◌<◌, subst, arith, length, refl}
 use Rattle.jl_context.proofs.Bools.{on-ok}
-use Rattle.jl_context.specs.Layers.{terms_of, seen, change, Changes, slots_of}
+use Rattle.jl_context.specs.Layers.{seen, Changes, slots_of}
 use Rattle.jl_context.proofs.LayerLemmas.{newest-changed}
 use Rattle.jl_context.proofs.terms.set_in.Goals as goal
 

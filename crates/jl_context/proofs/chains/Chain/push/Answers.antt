@@ -1,4 +1,4 @@
-use Rattle.std.proofs.Common.{◌≡◌, ◌+◌, ◌∷◌, sym, ap, ◌∙◌}
+use Rattle.std.proofs.Common.{◌+◌, ◌∷◌, ap, ◌∙◌}
 use Rattle.jl_defs.specs.Context.{level_size}
 use Rattle.jl_context.specs.Chains.{IsPushed}
 use Rattle.jl_context.proofs.ChainLemmas.{pushed-holds}

@@ -1,5 +1,3 @@
-use Rattle.std.proofs.Common.{rules, ◌≡◌, ℕ, Some}
-use Rattle.jl_context.specs.Layers.{slots_of, raw_slot, seen, Changes, slot}
 use Rattle.jl_context.proofs.LayerLemmas.{changed}
 use Rattle.jl_context.proofs.layers.Layer.set.Goals as goal
 

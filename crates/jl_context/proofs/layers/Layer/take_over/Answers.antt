@@ -1,4 +1,4 @@
-use Rattle.std.proofs.Common.{rules, ◌≡◌, ℕ, ap, sym, ◌∙◌, subst, map}
+use Rattle.std.proofs.Common.{rules, ◌≡◌, ap, ◌∙◌, subst, map}
 use Rattle.std.specs.Map.Iter.{deref_pair}
 use Rattle.std.proofs.lemmas.Map.Iter.{iter_end}
 use Rattle.jl_context.specs.Layers.{slots_of, slot, or_slot, seen, Adds}

@@ -1,6 +1,6 @@
 use Rattle.std.proofs.Common.{◌≡◌, ap, sym, subst, ◌∙◌}
 use Rattle.jl_defs.specs.Context.{lookup}
-use Rattle.jl_context.specs.Layers.{layers_in, terms_of, seen, change}
+use Rattle.jl_context.specs.Layers.{layers_in, terms_of, seen}
 use Rattle.jl_context.specs.Counted.{parts, AreSums}
 use Rattle.jl_context.proofs.LayerLemmas.{layers-sorted}
 use Rattle.jl_context.proofs.TermSums.{parts-within, sums-changed}

@@ -1,7 +1,7 @@
-use Rattle.std.proofs.Common.{◌≡◌, ap, ◌∙◌, nat_lt}
+use Rattle.std.proofs.Common.{ap, ◌∙◌, nat_lt}
 use Rattle.std.specs.List.{list_any}
 use Rattle.jl_context.specs.Layers.{terms_of}
-use Rattle.jl_context.specs.Counted.{is_protected}
+use Rattle.jl_defs.specs.Process.{is_protected}
 use Rattle.jl_context.proofs.TermSums.{count-any}
 use Rattle.jl_context.proofs.terms.Terms.has_protected.Goals as goal
 

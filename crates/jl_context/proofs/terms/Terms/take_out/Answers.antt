@@ -1,4 +1,4 @@
-use Rattle.std.proofs.Common.{◌≡◌, sym, ap, ◌∙◌, not}
+use Rattle.std.proofs.Common.{sym, ap, ◌∙◌, not}
 use Rattle.jl_context.proofs.TermSums.{without-none, mapped-none}
 use Rattle.jl_context.proofs.terms.Terms.take_out.Goals as goal
 
