@@ -338,10 +338,6 @@ impl Reading {
         requires formed { string.InFormed place }
         ensures { MovesBy result self.old self.new (machine.in_text place self.old byte) }
     {
-        if place.is_closed_by(byte) {
-            self.go_on(Spot::After);
-            return Ok(Sign::Text);
-        }
         match place.read(&mut self.part, byte)? {
             StringStep::Bad => Err(Halt::AtToken(place.code_of(byte))),
             StringStep::Ends => {
@@ -374,9 +370,6 @@ impl Reading {
         requires formed { string.InFormed place }
         ensures { MovesBy result self.old self.new (machine.in_key true place self.old byte) }
     {
-        if place.is_closed_by(byte) {
-            return self.end_key(alloc);
-        }
         match place.read(&mut self.part, byte)? {
             StringStep::Bad => Err(Halt::AtToken(place.code_of(byte))),
             StringStep::Ends => self.end_key(alloc),

@@ -1,9 +1,8 @@
 //! Where a byte of a string stands (RFC 8259, section 7; RFC 3629, section 4).
-ghost use Rattle.std.specs.Prelude.{◌≡◌, ◌<◌, ◌++◌, [], ◌∷◌, true, OnOk, IfOk, IfSome, IsTrue, ◌↔◌, encode_utf8};
+ghost use Rattle.std.specs.Prelude.{◌≡◌, ◌<◌, ◌++◌, [], ◌∷◌, OnOk, IfOk, IfSome, IsTrue, ◌↔◌, encode_utf8};
 ghost use Rattle.std.specs.Option.{option_map};
 ghost use Rattle.jl_model.specs.JsonStrings as strings;
 ghost use Rattle.jl_token.specs.StringMachine as machine;
-ghost use Rattle.jl_token.specs.StringMachine.Did.{ends};
 ghost use Rattle.jl_token.specs.Runs as runs;
 ghost use Rattle.jl_token.specs.StringSteps.{DoesString, lead_place};
 
@@ -235,17 +234,6 @@ impl InString {
     {
         match self {
             InString::Plain => true,
-            _ => false,
-        }
-    }
-
-    /// Whether the byte closes the string here.
-    #[inline(always)]
-    pub(crate) fn is_closed_by(self, byte: u8) -> bool
-        ensures { result ≡ true → machine.string_did self byte ≡ ends }
-    {
-        match self {
-            InString::Plain => byte == b'"',
             _ => false,
         }
     }
