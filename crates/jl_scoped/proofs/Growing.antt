@@ -190,7 +190,7 @@ grow-entry m D g p name (Some e) u f =
     named : e.name ≡ name
     named = found-by-name m.entries name e f
 
-define-step : (n : ℕ) (m : LocalMap) (p : Progress) (name : Text)
+pub define-step : (n : ℕ) (m : LocalMap) (p : Progress) (name : Text)
     → define (suc n) m p name ≡ elim (is_among p.defined name) [ true ↦ Ok p | false ↦ elim (is_among p.pending name) [ true ↦ Err code.CyclicIriMapping | false ↦ define_entry m (define n m) p (find_entry m.entries name) ] ]
 unfolding define
 define-step n m p name = refl

@@ -2,3 +2,7 @@ mod Meeting
 mod OtherNames
 mod Extending
 mod Growing
+mod Tries
+mod SameTexts
+mod Trials
+mod WaitingSteps

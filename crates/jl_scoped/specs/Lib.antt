@@ -1,1 +1,3 @@
 pub mod Faithful
+pub mod Asking
+pub mod Waiting
