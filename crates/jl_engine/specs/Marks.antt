@@ -1,5 +1,5 @@
 -- Events whose text is lent, and events as they are held: a mark for each, with their texts one after another.
-use Rattle.std.specs.Prelude.{ℕ, zero, ◌+◌, List, [], ◌∷◌, take, drop, true, false}
+use Rattle.std.specs.Prelude.{ℕ, zero, ◌+◌, ◌*◌, ◌^◌, List, [], ◌∷◌, take, drop, true, false}
 use Rattle.jl_model.specs.declared.scalars.Scalar.{Scalar}
 use Rattle.jl_model.specs.declared.scalars.Scalar.TheVariants as scalars
 use Rattle.jl_defs.specs.Texts.{Text}
@@ -38,12 +38,22 @@ event_by kinds.False at text = events.Value at (scalars.Bool false)
 event_by kinds.Number at text = events.Value at (scalars.Number text)
 event_by kinds.Str at text = events.Value at (scalars.Str text)
 
+-- a number in five bytes: the lower four, and the highest
+abbrev pub whole : ℕ → ℕ → ℕ
+whole low high = high * 2 ^ 32 + low
+
+unfoldable pub at_of : Mark → ℕ
+at_of m = whole m.at_low m.at_high
+
+unfoldable pub len_of : Mark → ℕ
+len_of m = whole m.len_low m.len_high
+
 -- the events of these marks, whose texts stand one after another
 abbrev pub marked : List Mark → Text → List Event
 marked [] bytes = []
-marked (m ∷ ms) bytes = event_by m.kind m.at (take m.len bytes) ∷ marked ms (drop m.len bytes)
+marked (m ∷ ms) bytes = event_by m.kind (at_of m) (take (len_of m) bytes) ∷ marked ms (drop (len_of m) bytes)
 
 -- how many bytes their texts take
 abbrev pub text_len : List Mark → ℕ
 text_len [] = zero
-text_len (m ∷ ms) = m.len + text_len ms
+text_len (m ∷ ms) = len_of m + text_len ms

@@ -96,15 +96,13 @@ impl Events {
     }
 
     /// Adds the event of this kind.
-    #[tactic(auto, using(crate::proofs::HeldMarks::marked_more, crate::proofs::HeldMarks::text_len_more))]
+    #[tactic(auto, using(crate::proofs::HeldMarks::marked_with, crate::proofs::HeldMarks::text_len_more))]
     fn put(&mut self, kind: MarkKind, at: u64, text: &[u8]) -> Result<(), NoMemory>
         ensures { OnOk result (self.new ≡ self.old ++ event_by kind at text.now ∷ []) }
     {
         let before = self.bytes.len();
-        let mark = Mark {
-            kind,
-            at,
-            len: text.len(),
+        let Some(mark) = Mark::new(kind, at, text.len() as u64) else {
+            return Err(NoMemory);
         };
         match self.bytes.extend_from_slice(text) {
             Ok(()) => match self.marks.push(mark) {

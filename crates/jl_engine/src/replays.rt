@@ -146,7 +146,7 @@ impl Reader {
     {
         let mut rest = bytes;
         for mark in marks {
-            let (text, more) = text_and_rest(rest, mark.len);
+            let (text, more) = text_and_rest(rest, mark.len());
             if let Err(stop) = self.at_step(alloc, context, true, mark.event(text), quads) {
                 return Err(stop);
             }
