@@ -112,7 +112,9 @@ impl EngineState {
         ensures out { Leaves result O.selects O.faults O.beside out.old out.new }
     {
         let mut quads = Quads::none(alloc);
-        self.say_by(alloc, signs, at, &mut quads, out)
+        let said = self.say_by(alloc, signs, at, &mut quads, out);
+        self.reader.stack.keep(quads.into_first());
+        said
     }
 
     /// The same, where the quads are gathered in the empty list that is lent.

@@ -83,6 +83,12 @@ impl Quads {
         }
     }
 
+    /// Those of the first move, to be kept by its stack once they have been put.
+    #[inline(always)]
+    pub fn into_first(self) -> Emits {
+        self.first
+    }
+
     /// The quads in their order, lent: those of the first slice, and then those of the second.
     pub fn parts(&self) -> (&[Quad], &[Quad])
         ensures { self.now ≡ result.0.now ++ result.1.now }

@@ -7,7 +7,7 @@ ghost use Rattle.jl_engine.specs.Moves.{Moves};
 use crate::moves::{read_key, read_scalar};
 use crate::quads::Quads;
 use jl_context::Context;
-use jl_frames::{FrameStop, Stack};
+use jl_frames::{FrameStop, ReadAs, Stack};
 use jl_model::{NoMemory, Scalar, Text};
 use std::alloc::Global;
 
@@ -32,9 +32,46 @@ pub fn tell_key(
     }
 }
 
-/// A string.
-#[inline(never)]
+/// A string. Under a property it goes straight into its quad.
+#[inline(always)]
 pub fn tell_text(
+    alloc: Global,
+    context: &Context,
+    at: u64,
+    text: &[u8],
+    stack: &mut Stack,
+    quads: &mut Quads,
+) -> Result<(), FrameStop>
+    ensures { Moves result quads.old
+        (spec.takes_scalar (context_of context.now) at (scalars.Str text.now) stack.old)
+        quads.new stack.new }
+{
+    match stack.reads_as() {
+        ReadAs::Property => tell_string(alloc, at, text, stack, quads),
+        _ => tell_copy(alloc, context, at, text, stack, quads),
+    }
+}
+
+/// A string under a property.
+#[tactic(auto, unfolding(jl_defs::specs::Values::literal_of))]
+fn tell_string(
+    alloc: Global,
+    at: u64,
+    text: &[u8],
+    stack: &mut Stack,
+    quads: &mut Quads,
+) -> Result<(), FrameStop>
+    ensures { Moves result quads.old
+        (spec.under_property at (scalars.Str text.now) stack.old) quads.new stack.new }
+{
+    let emits = stack.text(alloc, at, text)?;
+    quads.add(emits)?;
+    Ok(())
+}
+
+/// A string elsewhere.
+#[inline(never)]
+fn tell_copy(
     alloc: Global,
     context: &Context,
     at: u64,
