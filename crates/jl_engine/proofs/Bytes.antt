@@ -20,9 +20,8 @@ use Rattle.jl_engine.specs.declared.engines.EngineState.{EngineState}
 use Rattle.jl_engine.specs.declared.readers.Reader.{Reader}
 use Rattle.jl_engine.specs.declared.stops.Stop.{Stop}
 use Rattle.jl_engine.specs.declared.stops.Stop.TheVariants.{Refused, OutFault, NoMemory}
-use Rattle.jl_engine.proofs.Consequences.{sure, grows}
 use Rattle.jl_engine.proofs.Endings.{end-quiet}
-use Rattle.jl_engine.proofs.Feeding.{run-stands, byte-refused, stopped-wide, nothing-left, byte-stopped, byte-goes, events-refused, puts-stopped, fed-by, end-refused, end-stopped, end-goes, end-events-refused, ended}
+use Rattle.jl_engine.proofs.Feeding.{run-stands, byte-refused, stopped-wide, nothing-left, byte-stopped, byte-goes, events-refused, puts-stopped, fed-by, end-refused, end-stopped, end-goes, end-events-refused, ended, sure, grows}
 use Rattle.jl_engine.proofs.KeepsSteps.{steps-keep}
 
 pub sure-now : (s : Settings) (bytes : List ℕ) (quads : List Parts) (e : EngineState) → Stands s bytes quads e → AreSure s bytes quads

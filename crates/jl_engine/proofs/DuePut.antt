@@ -41,7 +41,7 @@ use Rattle.jl_engine.specs.declared.engines.EngineState.{EngineState}
 use Rattle.jl_engine.specs.TreeEvents.{event_of, walked}
 use Rattle.jl_engine.specs.Standing.{Stands, IsWithinStage}
 use Rattle.jl_engine.specs.Prompt.{DueIsSaid}
-use Rattle.jl_engine.proofs.Consequences.{has-first}
+use Rattle.jl_engine.proofs.Feeding.{has-first}
 use Rattle.jl_engine.proofs.Lists.{front-first}
 use Rattle.jl_engine.proofs.TokensOfTrees.{walk_events, walk-append, read-events}
 use Rattle.jl_engine.proofs.DueWords.{Located, AllLocated, words-located}

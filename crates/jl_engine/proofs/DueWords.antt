@@ -9,7 +9,7 @@ use Rattle.jl_model.specs.JsonText.{Then, Blanks, Colon, ValueText, ItemsText, M
 use Rattle.jl_defs.specs.OpenTree.{Open, unread, in_scalar, in_array, in_object, in_key, in_member, whole, IsUnread}
 use Rattle.jl_defs.specs.OpenText.{Language, Either, Where, OpenPair, ItemsThen, MoreItemsThen, MembersThen, MoreMembersThen, OpenText, Opens}
 use Rattle.jl_walk.specs.Due.{open_events}
-use Rattle.jl_walk.specs.Events.{Event, opens_object, opens_array, closes, a_key, a_scalar, tree_events, items_events, members_events}
+use Rattle.jl_walk.specs.Events.{Event, closes, a_key, a_scalar, tree_events, items_events, members_events}
 
 -- the word stands in the text, whose first byte has the place `at`, at its own place
 abbrev pub WordAt : ℕ → List ℕ → ℕ → List ℕ → Type 0
@@ -35,23 +35,13 @@ located-left : (at : ℕ) (x y : List ℕ) (e : Event) → Located at x e → Lo
 located-left at x y (a_scalar q Null) l = word-left at x y q (codes "null") l
 located-left at x y (a_scalar q (boolean true)) l = word-left at x y q (codes "true") l
 located-left at x y (a_scalar q (boolean false)) l = word-left at x y q (codes "false") l
-located-left at x y (a_scalar q (Number n)) l = tt
-located-left at x y (a_scalar q (Str m)) l = tt
-located-left at x y (opens_object q) l = tt
-located-left at x y (opens_array q) l = tt
-located-left at x y closes l = tt
-located-left at x y (a_key q n) l = tt
+located-left at x y z l = tt
 
 located-right : (at : ℕ) (x y : List ℕ) (e : Event) → Located (at + length x) y e → Located at (x ++ y) e
 located-right at x y (a_scalar q Null) l = word-right at x y q (codes "null") l
 located-right at x y (a_scalar q (boolean true)) l = word-right at x y q (codes "true") l
 located-right at x y (a_scalar q (boolean false)) l = word-right at x y q (codes "false") l
-located-right at x y (a_scalar q (Number n)) l = tt
-located-right at x y (a_scalar q (Str m)) l = tt
-located-right at x y (opens_object q) l = tt
-located-right at x y (opens_array q) l = tt
-located-right at x y closes l = tt
-located-right at x y (a_key q n) l = tt
+located-right at x y z l = tt
 
 -- what stands in a part stands in the whole
 module _ (start : ℕ) (all : List ℕ) where

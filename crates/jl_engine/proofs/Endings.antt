@@ -4,7 +4,7 @@ use Rattle.std.specs.Prelude.{IfSome}
 use Rattle.std.specs.Option.{option_to_list}
 use Rattle.jl_model.specs.Parts.{Parts}
 use Rattle.jl_model.specs.JsonTree.{Tree, scalar, array, object, Trees, no_item, item, Members, no_member, member}
-use Rattle.jl_model.specs.declared.scalars.Scalar.TheVariants.{Null, Bool as boolean, Number, Str}
+use Rattle.jl_model.specs.declared.scalars.Scalar.TheVariants.{Number}
 use Rattle.jl_model.specs.declared.tokens.Token.{Token}
 use Rattle.jl_model.specs.declared.tokens.Token.TheVariants as tokens
 use Rattle.jl_token.specs.Lexed.{Ends, IsNumberToken}
@@ -62,11 +62,7 @@ mutual
 -- what closes is no number
 not-closed : (t : Token) → IsNumberToken t → walked (event_of t) ≡ closes → ⊥
 not-closed (tokens.Value place v) n e = cc
-not-closed (tokens.OpenObject place) n e = n
-not-closed (tokens.CloseObject place) n e = n
-not-closed (tokens.OpenArray place) n e = n
-not-closed (tokens.CloseArray place) n e = n
-not-closed (tokens.Key place name) n e = n
+not-closed x n e = n
 
 nothing-before : (given : List Token) (x y : Event) → walk_events given ++ x ∷ [] ≡ y ∷ [] → given ≡ []
 nothing-before [] x y e = refl
@@ -88,14 +84,7 @@ ok-quads p q y z e = sym (ap quads_of e)
 number-brings : (s : Settings) (t : Token) (q : List Parts) (z : State) → IsNumberToken t → run s (walk_events (t ∷ [])) (at (start s)) ≡ Ok (q, z) → q ≡ []
 unfolding run step take_scalar
 number-brings s (tokens.Value place (Number digits)) q z n e = ok-quads [] q _ z e
-number-brings s (tokens.Value place Null) q z n e = absurd n
-number-brings s (tokens.Value place (boolean b)) q z n e = absurd n
-number-brings s (tokens.Value place (Str text)) q z n e = absurd n
-number-brings s (tokens.OpenObject place) q z n e = absurd n
-number-brings s (tokens.CloseObject place) q z n e = absurd n
-number-brings s (tokens.OpenArray place) q z n e = absurd n
-number-brings s (tokens.CloseArray place) q z n e = absurd n
-number-brings s (tokens.Key place name) q z n e = absurd n
+number-brings s x q z n e = absurd n
 
 none-brings : (s : Settings) (y z : State) (q : List Parts) → run s [] y ≡ Ok (q, z) → q ≡ []
 unfolding run

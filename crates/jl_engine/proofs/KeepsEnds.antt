@@ -70,10 +70,8 @@ same-json-number t (Ok text) = refl
 same-json-number t (Err c) = refl
 
 same-json : (a : ℕ) (v : Scalar) → SameTerm (objects.json_value (scalar a v))
-same-json a Null = refl
-same-json a (boolean b) = refl
 same-json a (Number token) = same-json-number (scalar a (Number token)) (json_number token)
-same-json a (Str text) = refl
+same-json a x = refl
 
 same-object : (b : Bool) (t : ValueType) (l : Option Text) (a : ℕ) (v : Scalar) → SameTerm (elim b [ true ↦ objects.json_value (scalar a v) | false ↦ objects.typed_literal t l (scalar a v) ])
 same-object true t l a v = same-json a v
@@ -110,20 +108,14 @@ number-ends under i false (values.literal x) a v e j = refl
 number-ends under i false values.left_out a v e j = refl
 
 same-iri : (t : ValueType) → closing.type_iri (kept_types t) ≡ objects.type_iri t
-same-iri untyped = refl
 same-iri (typed_by expanded.Null) = refl
-same-iri (typed_by (expanded.Keyword text)) = refl
-same-iri (typed_by (expanded.Name text)) = refl
-same-iri not_one = refl
+same-iri x = refl
 
 -- a type that is one IRI, or none at all, makes no JSON literal
 no-json-type : (k : Bool) (t : ValueType) → (k ≡ false → t ≡ untyped) → (k && not (has_iri (objects.type_iri t))) ≡ false → objects.is_json_type t ≡ false
-no-json-type k untyped f e = refl
-no-json-type k not_one f e = refl
-no-json-type k (typed_by expanded.Null) f e = refl
-no-json-type k (typed_by (expanded.Name text)) f e = refl
 no-json-type true (typed_by (expanded.Keyword text)) f e = absurd cc
 no-json-type false (typed_by (expanded.Keyword text)) f e = absurd (let no : typed_by (expanded.Keyword text) ≡ untyped = f refl in cc)
+no-json-type k x f e = refl
 
 -- by its type
 typed-ends : (under : Under) (i : Inside) (k y d : Bool) (t : ValueType) (l : Option Text) (at a : ℕ) (ps : ValueParts) (v : Scalar) → (k ≡ false → t ≡ untyped) → (k && not (has_iri (objects.type_iri t))) ≡ y →

@@ -1,5 +1,5 @@
 -- A key comes: it is of a form that isn't built, or late, or it collides, or its value is expected.
-use Rattle.std.proofs.Common.{ℕ, ◌≡◌, refl, sym, ◌∙◌, ap, subst, Bool, true, false, ◌&&◌, ◌||◌, List, [], ◌∷◌, ◌++◌, Option, Some, None, Ok, Err}
+use Rattle.std.proofs.Common.{ℕ, ◌≡◌, refl, sym, ◌∙◌, ap, subst, Bool, true, false, ◌&&◌, ◌||◌, List, [], ◌∷◌, ◌++◌, Option, Some, None, Ok, Err, not, Result}
 use Rattle.jl_model.specs.declared.codes.Code.TheVariants as code
 use Rattle.jl_model.specs.declared.faults.Fault.{Fault}
 use Rattle.jl_model.specs.declared.expansions.Expanded.{Expanded}
@@ -14,14 +14,14 @@ use Rattle.jl_defs.specs.LateKeys.{if_so}
 use Rattle.jl_laws.specs.Spots.{Spot}
 use Rattle.jl_walk.specs.Phases.{Phase, in_rest, follow, phase_faults}
 use Rattle.jl_walk.specs.Stage as stage
-use Rattle.jl_walk.specs.Frames.{Expected, property_value, keyword_value, dropped_value, Object, Frame, values, object as object_frame, types, dropped as dropped_frame}
+use Rattle.jl_walk.specs.Frames.{Expected, property_value, keyword_value, dropped_value, Object, Frame, values, object as object_frame, types, dropped as dropped_frame, no_value, property_spot, spot_under, spot_in}
 use Rattle.jl_walk.specs.Keys.{with_keyword, key_of_object, with_phase, take_key}
 use Rattle.jl_walk.specs.Steps as walk
 use Rattle.jl_frames.specs.Answers.{is_built_key}
 use Rattle.jl_frames.specs.Machine as frames
-use Rattle.jl_frames.specs.Machine.{Step, state, after_key}
+use Rattle.jl_frames.specs.Machine.{Step, state, after_key, all_holding, in_object, on_pending, opens_types, on_types}
 use Rattle.jl_frames.specs.Nodes as nodes
-use Rattle.jl_frames.specs.Nodes.{has_come, with_entry, meaning_of, take_once, take_meaning}
+use Rattle.jl_frames.specs.Nodes.{has_come, with_entry, meaning_of, take_once, take_meaning, no_entries, no_parts, opened as opened_node, with_many_kinds}
 use Rattle.jl_frames.specs.declared.entries.Entries.{Entries}
 use Rattle.jl_frames.specs.declared.keywords.Keyword.{Keyword}
 use Rattle.jl_frames.specs.declared.keywords.Keyword.TheVariants as keyword
@@ -32,11 +32,195 @@ use Rattle.jl_frames.specs.declared.opens.Open.TheVariants as opens
 use Rattle.jl_frames.specs.declared.values.ValueParts.{ValueParts}
 use Rattle.jl_frames.proofs.Marks.{any-append, entry_of}
 use Rattle.jl_engine.specs.Moves as moves
-use Rattle.jl_engine.specs.Moves.{late_faults, takes_key}
-use Rattle.jl_engine.specs.KeepsFrames.{kept_pending, IsPlainEntry, AreEntries, IsExpected, KeepsParts, KeepsMarks, plain_inside, KeepsAt, KeepsIn, AgreesFrames, AgreesLeading, InRest, node_valued}
-use Rattle.jl_engine.proofs.KeepsMarked.{keyword-marked}
-use Rattle.jl_engine.proofs.KeepsTold.{other-entry, entry-added, its-marks}
+use Rattle.jl_engine.specs.Moves.{late_faults, takes_key, plain_frame, opens_array, opens_other}
+use Rattle.jl_engine.specs.KeepsFrames.{kept_pending, IsPlainEntry, AreEntries, IsExpected, KeepsParts, KeepsMarks, plain_inside, KeepsAt, KeepsIn, AgreesFrames, AgreesLeading, InRest, node_valued, kept_node, IsPlainInside, KeepsTypes, TypesIn}
+use Rattle.jl_engine.proofs.KeepsMarked.{keyword-marked, none-marked, holds, holding-valued}
+use Rattle.jl_engine.proofs.KeepsTold.{other-entry, entry-added, its-marks, kept-at, agrees-on}
 use Rattle.jl_engine.proofs.KeepsLater.{same-built, built-no-context, unbuilt-not-late, not-late}
+use Rattle.jl_model.specs.declared.graph_scopes.GraphScope.{GraphScope}
+use Rattle.jl_model.specs.declared.graph_scopes.GraphScope.TheVariants.{Main}
+use Rattle.jl_model.specs.declared.terms.Term.{Term}
+use Rattle.jl_defs.specs.Items.{Naming}
+use Rattle.jl_defs.specs.NodeMap.{term_of_node}
+use Rattle.jl_defs.specs.ValueObjects.{untyped, not_one, is_json}
+use Rattle.jl_walk.specs.Opening.{items_of, array_under, open_array, Entering, scope_of, fresh, enter_at, object_under, enter}
+use Rattle.jl_walk.specs.Running.{top_spot}
+use Rattle.jl_frames.specs.declared.facts.Frame as fact
+use Rattle.jl_frames.specs.declared.roles.Role.TheVariants as role
+use Rattle.jl_frames.specs.declared.values.Kinds.TheVariants as kinds
+use Rattle.jl_engine.specs.Leads.{naming_shown, frame_by}
+use Rattle.jl_engine.proofs.KeepsSpots.{its-pending, has-spot, not-dropped, enters-here, scope-main}
+
+-- ---- an array
+
+array-put : (s : Settings) (at : ℕ) (b : Bool) (p : Spot) (f : Frame) (k : List Frame) (n : Option Node) (opened : List Open) → KeepsIn s false (f ∷ k) n opened → spot_in f ≡ Some p →
+    node_valued n ≡ b → AgreesLeading s b (walk.quiet (items_of p ∷ (f ∷ k))) (opens_array at (state n opened))
+unfolding frames.enter
+array-put s at b p f k n opened h e v =
+    agrees-on s b [] (items_of p ∷ (f ∷ k)) (all_holding n) (opens.Array ∷ opened) _
+    (enters-here s p (plain_frame role.Set at) n opened (not-dropped s false (f ∷ k) n opened p h e) (has-spot s false (f ∷ k) n opened p h e))
+    ((p, (e, refl)), holds s false (f ∷ k) n opened p h e) (holding-valued n ∙ v)
+
+-- an array of types: a value object has more than one
+many-parts : (v : Bool) (o : Object) (ps : ValueParts) → KeepsParts v o ps → KeepsParts v (record o { types = not_one }) (elim v [ true ↦ record ps { kinds = kinds.Several } | false ↦ ps ])
+many-parts true o ps h = (ap {A = ValueParts} (λ x. record x { kinds = kinds.Several }) h.0, h.1)
+many-parts false o ps h = h
+
+many-node : (v : Bool) (o : Object) (es : Entries) (ps : ValueParts) →
+    with_many_kinds (kept_node o v es ps) ≡ kept_node (record o { types = not_one }) v es (elim v [ true ↦ record ps { kinds = kinds.Several } | false ↦ ps ])
+many-node true o es ps = refl
+many-node false o es ps = refl
+
+many-at : (s : Settings) (p : Spot) (i : Inside) (o : Object) (k : List Frame) (n : Node) → any_key is_kind o.entries ≡ true → KeepsAt s false p i o k n →
+    KeepsAt s false p i (record o { types = not_one }) k (with_many_kinds n)
+many-at s p i o k n e h =
+    kept-at s false false p i o (record o { types = not_one }) k n (with_many_kinds n) h.keeps.entries (elim h.keeps.valued [ true ↦ record h.keeps.parts { kinds = kinds.Several } | false ↦ h.keeps.parts ]) h
+    (ap with_many_kinds h.keeps.same ∙ many-node h.keeps.valued o h.keeps.entries h.keeps.parts) h.keeps.in_main h.keeps.expected h.keeps.marks h.keeps.are_entries
+    (many-parts h.keeps.valued o h.keeps.parts h.keeps.its_parts) (λ none. absurd (let both : true ≡ false = sym e ∙ none in cc))
+
+many-valued : (n : Node) → (with_many_kinds n).valued ≡ n.valued
+many-valued n = elim n.valued as (λ v. node_valued (Some (elim v [ true ↦ record n { parts = record n.parts { kinds = kinds.Several } } | false ↦ n ])) ≡ n.valued) [ true ↦ refl | false ↦ refl ]
+
+array-in-object : (s : Settings) (at : ℕ) (b : Bool) (p : Spot) (i : Inside) (o : Object) (k : List Frame) (n : Node) (outer : Option Node) (opened : List Open) →
+    KeepsIn s false (object_frame p i o ∷ k) (Some n) (opens.Object outer ∷ opened) → n.valued ≡ b →
+    AgreesLeading s b (array_under at o.expects p i o k) (opens_array at (state (Some n) (opens.Object outer ∷ opened)))
+unfolding frames.enter
+array-in-object s at b p i o k n outer opened h v = by o.expects refl h.0.keeps.expected
+  where
+    waits : (x : Expected) → o.expects ≡ x → n.pending ≡ kept_pending x
+    waits x e = its-pending s false p i o k n x h.0 e
+
+    goes : (x : Expected) → o.expects ≡ x → opens_array at (state (Some n) (opens.Object outer ∷ opened)) ≡ on_pending (kept_pending x) (plain_frame role.Set at) n (opens.Object outer ∷ opened)
+    goes x e = ap (λ w. on_pending w (plain_frame role.Set at) n (opens.Object outer ∷ opened)) (waits x e)
+
+    by : (x : Expected) → o.expects ≡ x → IsExpected x o.entries → AgreesLeading s b (array_under at x p i o k) (opens_array at (state (Some n) (opens.Object outer ∷ opened)))
+    by no_value e y = (state (Some n) (opens.Dropped ∷ (opens.Object outer ∷ opened)), (goes no_value e, ((refl, (tt, h)), v)))
+    by dropped_value e y = (state (Some n) (opens.Dropped ∷ (opens.Object outer ∷ opened)), (goes dropped_value e, ((refl, (tt, h)), v)))
+    by (property_value name iri) e y = array-put s at b (property_spot i o name iri) (object_frame p i o) k (Some n) (opens.Object outer ∷ opened) h (ap (spot_under i o) e) v
+    by (keyword_value kind key_at) e y =
+        agrees-on s b [] (types i.base o.subject o.scope key_at ∷ (object_frame p i (record o { types = not_one }) ∷ k)) (Some (with_many_kinds n)) (opens.Array ∷ (opens.Object outer ∷ opened)) _ (goes (keyword_value kind key_at) e)
+        (record { base = refl; subject = refl; scope = refl; expects = e; types = refl }, (many-at s p i o k n y h.0, h.1)) (many-valued n ∙ v)
+    by (keyword_value id key_at) e y = goes (keyword_value id key_at) e
+    by (keyword_value value key_at) e y = goes (keyword_value value key_at) e
+    by (keyword_value language key_at) e y = goes (keyword_value language key_at) e
+    by (keyword_value direction key_at) e y = goes (keyword_value direction key_at) e
+    by (keyword_value index key_at) e y = goes (keyword_value index key_at) e
+    by (keyword_value q key_at) e y = absurd y
+
+-- the object round an array of types waits for types
+types-wait : (s : Settings) (c : Context) (m : Option Term) (g : GraphScope) (key_at : ℕ) (p : Spot) (i : Inside) (o : Object) (k : List Frame) (n : Node) →
+    KeepsTypes c m g key_at i o → KeepsAt s false p i o k n → n.pending ≡ pending.Keyword key_at keyword.Kind
+types-wait s c m g key_at p i o k n t h = its-pending s false p i o k n (keyword_value kind key_at) h t.expects
+
+-- no container opens in an array of types
+refused-in-types : (s : Settings) (f : fact.Frame) (c : Context) (m : Option Term) (g : GraphScope) (key_at : ℕ) (k : List Frame) (n : Option Node) (opened : List Open) →
+    (on_types (opens_types keyword.Kind f.role false) key_at keyword.Kind ≡ (λ n k. Err (fault code.InvalidTypeValue key_at))) →
+    TypesIn c m g key_at k → KeepsIn s false k n opened → frames.enter f (state n (opens.Array ∷ opened)) ≡ Err (fault code.InvalidTypeValue key_at)
+unfolding frames.enter
+refused-in-types s f c m g key_at (object_frame p i o ∷ k) (Some n) (opens.Object outer ∷ opened) r t h =
+    ap (λ w. on_pending w f n (opens.Array ∷ (opens.Object outer ∷ opened))) (types-wait s c m g key_at p i o k n t h.0)
+    ∙ ap (λ x. x n (opens.Array ∷ (opens.Object outer ∷ opened))) r
+refused-in-types s f c m g key_at (object_frame p i o ∷ k) n opened r t h = absurd h
+refused-in-types s f c m g key_at k n opened r t h = absurd t
+
+-- an array opens
+pub array-opens : (s : Settings) (at : ℕ) (b : Bool) (k : List Frame) (n : Option Node) (opened : List Open) → KeepsIn s false k n opened → node_valued n ≡ b →
+    AgreesLeading s b (open_array at k) (opens_array at (state n opened))
+unfolding open_array frames.enter
+array-opens s at b [] n opened h v = absurd h
+array-opens s at b (values p ∷ []) None [] h v = array-put s at b p (values p) [] None [] h refl v
+array-opens s at b (values p ∷ (f ∷ k)) n (opens.Array ∷ opened) h v = array-put s at b p (values p) (f ∷ k) n (opens.Array ∷ opened) h refl v
+array-opens s at b (object_frame p i o ∷ k) (Some n) (opens.Object outer ∷ opened) h v = array-in-object s at b p i o k n outer opened h v
+array-opens s at b (types c m g key_at ∷ k) n (opens.Array ∷ opened) h v = refused-in-types s (plain_frame role.Set at) c m g key_at k n opened refl h.0 h.1
+array-opens s at b (dropped_frame ∷ k) n (opens.Dropped ∷ opened) h v = (state n (opens.Dropped ∷ (opens.Dropped ∷ opened)), (refl, ((refl, (tt, h)), v)))
+array-opens s at b k n opened h v = absurd h
+
+-- ---- an object where no value stands
+
+other-in-object : (s : Settings) (at : ℕ) (b : Bool) (d : Spot → Result Entering Fault) (p : Spot) (i : Inside) (o : Object) (k : List Frame) (n : Node) (outer : Option Node) (opened : List Open) →
+    KeepsIn s false (object_frame p i o ∷ k) (Some n) (opens.Object outer ∷ opened) → n.valued ≡ b → spot_under i o o.expects ≡ None →
+    AgreesLeading s b (object_under at o.expects d p i o k) (opens_other at (state (Some n) (opens.Object outer ∷ opened)))
+unfolding frames.enter
+other-in-object s at b d p i o k n outer opened h v z = by o.expects refl h.0.keeps.expected z
+  where
+    goes : (x : Expected) → o.expects ≡ x → opens_other at (state (Some n) (opens.Object outer ∷ opened)) ≡ on_pending (kept_pending x) (plain_frame role.Object at) n (opens.Object outer ∷ opened)
+    goes x e = ap (λ w. on_pending w (plain_frame role.Object at) n (opens.Object outer ∷ opened)) (its-pending s false p i o k n x h.0 e)
+
+    by : (x : Expected) → o.expects ≡ x → IsExpected x o.entries → spot_under i o x ≡ None → AgreesLeading s b (object_under at x d p i o k) (opens_other at (state (Some n) (opens.Object outer ∷ opened)))
+    by no_value e y z = (state (Some n) (opens.Dropped ∷ (opens.Object outer ∷ opened)), (goes no_value e, ((refl, (tt, h)), v)))
+    by dropped_value e y z = (state (Some n) (opens.Dropped ∷ (opens.Object outer ∷ opened)), (goes dropped_value e, ((refl, (tt, h)), v)))
+    by (property_value name iri) e y z = absurd cc
+    by (keyword_value kind key_at) e y z = goes (keyword_value kind key_at) e
+    by (keyword_value id key_at) e y z = goes (keyword_value id key_at) e
+    by (keyword_value value key_at) e y z = goes (keyword_value value key_at) e
+    by (keyword_value language key_at) e y z = goes (keyword_value language key_at) e
+    by (keyword_value direction key_at) e y z = goes (keyword_value direction key_at) e
+    by (keyword_value index key_at) e y z = goes (keyword_value index key_at) e
+    by (keyword_value q key_at) e y z = absurd y
+
+pub other-opens : (s : Settings) (at : ℕ) (b : Bool) (d : Spot → Result Entering Fault) (k : List Frame) (n : Option Node) (opened : List Open) → KeepsIn s false k n opened → node_valued n ≡ b →
+    top_spot k ≡ None → AgreesLeading s b (enter at d k) (opens_other at (state n opened))
+unfolding enter frames.enter
+other-opens s at b d [] n opened h v e = absurd h
+other-opens s at b d (values p ∷ k) n opened h v e = absurd cc
+other-opens s at b d (object_frame p i o ∷ k) (Some n) (opens.Object outer ∷ opened) h v e = other-in-object s at b d p i o k n outer opened h v e
+other-opens s at b d (types c m g key_at ∷ k) n (opens.Array ∷ opened) h v e = refused-in-types s (plain_frame role.Object at) c m g key_at k n opened refl h.0 h.1
+other-opens s at b d (dropped_frame ∷ k) n (opens.Dropped ∷ opened) h v e = (state n (opens.Dropped ∷ (opens.Dropped ∷ opened)), (refl, ((refl, (tt, h)), v)))
+other-opens s at b d k n opened h v e = absurd h
+
+-- ---- an object enters
+
+abbrev frame_node : ℕ → Bool → Naming → GraphScope → Node
+frame_node at v x g = record {
+  at = at;
+  subject = elim v [ true ↦ None | false ↦ term_of_node at x ];
+  scope = g;
+  valued = v;
+  entries = no_entries;
+  pending = pending.Nothing;
+  parts = no_parts;
+}
+
+fresh-parts : (v : Bool) (at : ℕ) (n : Option Term) (g : GraphScope) (ph : Phase) →
+    KeepsParts v (record { at = at; subject = elim v [ true ↦ None | false ↦ n ]; scope = g; entries = []; expects = no_value; phase = ph; value = None; types = untyped; language = None }) no_parts
+fresh-parts true at n g ph = (refl, refl)
+fresh-parts false at n g ph = refl
+
+fresh-at : (s : Settings) (at : ℕ) (e : Entering) (name : Option Expanded) (p : Spot) (k : List Frame) → IsPlainInside s e.inside → naming_shown name ≡ e.naming → top_spot k ≡ Some p →
+    scope_of p.role.around at p.head.scope ≡ Main → (e.valued ≡ true → is_json e.inside.input ≡ false) → KeepsAt s false p e.inside (fresh p at e) k (opened_node (frame_by at name e.valued))
+fresh-at s at e name p k i x r m j = record {
+  plain = i;
+  round = r;
+  keeps = record {
+    valued = e.valued;
+    entries = no_entries;
+    parts = no_parts;
+    same = ap (λ y. frame_node at e.valued y Main) x ∙ ap (λ g. frame_node at e.valued e.naming g) (sym m);
+    in_main = m;
+    expected = tt;
+    marks = none-marked;
+    are_entries = tt;
+    its_parts = fresh-parts e.valued at (term_of_node at e.naming) (scope_of p.role.around at p.head.scope) e.phase;
+    typed = λ none. refl;
+  };
+  no_json = j;
+}
+
+entered : (s : Settings) (at : ℕ) (e : Entering) (name : Option Expanded) (p : Spot) (k : List Frame) (n : Option Node) (opened : List Open) → KeepsIn s false k n opened → top_spot k ≡ Some p →
+    IsPlainInside s e.inside → naming_shown name ≡ e.naming → (e.valued ≡ true → is_json e.inside.input ≡ false) →
+    AgreesLeading s e.valued (walk.quiet (object_frame p e.inside (fresh p at e) ∷ k)) (frames.enter (frame_by at name e.valued) (state n opened))
+unfolding frames.enter
+entered s at e name p k n opened h r i x j =
+    agrees-on s e.valued [] (object_frame p e.inside (fresh p at e) ∷ k) (Some (opened_node (frame_by at name e.valued))) (opens.Object n ∷ opened) _
+    (enters-here s p (frame_by at name e.valued) n opened (not-dropped s false k n opened p h r) (has-spot s false k n opened p h r))
+    (fresh-at s at e name p k i x r (scope-main s p n at (has-spot s false k n opened p h r)) j, h) refl
+
+pub enters : (s : Settings) (at : ℕ) (e : Entering) (name : Option Expanded) (p : Spot) (k : List Frame) (n : Option Node) (opened : List Open) → KeepsIn s false k n opened → top_spot k ≡ Some p →
+    IsPlainInside s e.inside → naming_shown name ≡ e.naming → (e.valued && e.json) ≡ false → (e.valued ≡ true → is_json e.inside.input ≡ false) →
+    AgreesLeading s e.valued (enter_at p at (Ok e) k) (frames.enter (frame_by at name e.valued) (state n opened))
+enters s at e name p k n opened h r i x built j =
+    subst (λ b. AgreesLeading s e.valued (walk.if_built (not b) at (λ _. walk.quiet (object_frame p e.inside (fresh p at e) ∷ k))) (frames.enter (frame_by at name e.valued) (state n opened)))
+    (sym built) (entered s at e name p k n opened h r i x j)
 
 -- ---- an object that expects a value
 
@@ -56,23 +240,9 @@ expecting-parts false o ps ks x e h = e refl
 expects-at : (s : Settings) (p : Spot) (i : Inside) (o : Object) (k : List Frame) (n : Node) (ks : List Key) (es : Entries) (x : Expected) (h : KeepsAt s false p i o k n) → KeepsMarks es ks → AreEntries ks →
     IsExpected x ks → (h.keeps.valued ≡ false → any_key is_value ks ≡ false) → (any_key is_kind ks ≡ false → any_key is_kind o.entries ≡ false) →
     KeepsAt s false p i (record o { entries = ks; expects = x }) k (record n { entries = es; pending = kept_pending x })
-expects-at s p i o k n ks es x h m a e v t = record {
-  plain = h.plain;
-  round = h.round;
-  keeps = record {
-    valued = h.keeps.valued;
-    entries = es;
-    parts = h.keeps.parts;
-    same = ap {B = Node} (λ z. record z { entries = es; pending = kept_pending x }) h.keeps.same;
-    in_main = h.keeps.in_main;
-    expected = e;
-    marks = m;
-    are_entries = a;
-    its_parts = expecting-parts h.keeps.valued o h.keeps.parts ks x v h.keeps.its_parts;
-    typed = λ none. h.keeps.typed (t none);
-  };
-  no_json = h.no_json;
-}
+expects-at s p i o k n ks es x h m a e v t =
+    kept-at s false false p i o (record o { entries = ks; expects = x }) k n (record n { entries = es; pending = kept_pending x }) es h.keeps.parts h (ap {B = Node} (λ z. record z { entries = es; pending = kept_pending x }) h.keeps.same) h.keeps.in_main e m a
+    (expecting-parts h.keeps.valued o h.keeps.parts ks x v h.keeps.its_parts) (λ none. h.keeps.typed (t none))
 
 -- a value object, where it has an entry for its value
 has-value : (v : Bool) (o : Object) (ps : ValueParts) → KeepsParts v o ps → v ≡ false → any_key is_value o.entries ≡ false
@@ -110,13 +280,9 @@ once : (s : Settings) (b c : Bool) (at : ℕ) (p : Spot) (i : Inside) (o : Objec
     AgreesLeading s b (walk.unless_fault (if_so c (fault code.CollidingKeywords at ∷ [])) (λ _. walk.quiet (object_frame p i (with_keyword (entry_of q) at o) ∷ k)))
     (after_key (take_once c at q n) (opens.Object outer ∷ opened))
 once s b true at p i o k n outer opened q r y w f = refl
-once s b false at p i o k n outer opened q r y w f = (
-  state (Some (record n { entries = with_entry q n.entries; pending = kept_pending (keyword_value (entry_of q) at) })) (opens.Object outer ∷ opened),
-  (
-    ap {B = Step} (λ z. Ok ([], state (Some (record n { entries = with_entry q n.entries; pending = z })) (opens.Object outer ∷ opened))) w,
-    ((refl, (f refl, r)), y),
-  ),
-)
+once s b false at p i o k n outer opened q r y w f =
+    agrees-on s b [] (object_frame p i (with_keyword (entry_of q) at o) ∷ k) (Some (record n { entries = with_entry q n.entries; pending = kept_pending (keyword_value (entry_of q) at) })) (opens.Object outer ∷ opened) _
+    (ap {B = Step} (λ z. Ok ([], state (Some (record n { entries = with_entry q n.entries; pending = z })) (opens.Object outer ∷ opened))) w) (f refl, r) y
 
 pub key-agrees : (s : Settings) (b : Bool) (q : Key) (at : ℕ) (name : Text) (p : Spot) (i : Inside) (o : Object) (k : List Frame) (n : Node) (outer : Option Node) (opened : List Open) → KeepsAt s false p i o k n →
     KeepsIn s false k outer opened → n.valued ≡ b → stage.is_built_key q None ≡ true → (is_value q ≡ true → b ≡ true) →
@@ -168,24 +334,10 @@ phase-parts true o ps ph h = h
 phase-parts false o ps ph h = h
 
 -- another phase is not kept
-phase-at : (s : Settings) (held : Bool) (p : Spot) (i : Inside) (o : Object) (k : List Frame) (n : Node) (ph : Phase) → KeepsAt s held p i o k n → KeepsAt s held p i (with_phase ph o) k n
-phase-at s held p i o k n ph h = record {
-  plain = h.plain;
-  round = h.round;
-  keeps = record {
-    valued = h.keeps.valued;
-    entries = h.keeps.entries;
-    parts = h.keeps.parts;
-    same = h.keeps.same;
-    in_main = h.keeps.in_main;
-    expected = h.keeps.expected;
-    marks = h.keeps.marks;
-    are_entries = h.keeps.are_entries;
-    its_parts = phase-parts h.keeps.valued o h.keeps.parts ph h.keeps.its_parts;
-    typed = h.keeps.typed;
-  };
-  no_json = h.no_json;
-}
+pub phase-at : (s : Settings) (held : Bool) (p : Spot) (i : Inside) (o : Object) (k : List Frame) (n : Node) (ph : Phase) → KeepsAt s held p i o k n → KeepsAt s held p i (with_phase ph o) k n
+phase-at s held p i o k n ph h =
+    kept-at s held held p i o (with_phase ph o) k n n h.keeps.entries h.keeps.parts h h.keeps.same h.keeps.in_main h.keeps.expected h.keeps.marks h.keeps.are_entries
+    (phase-parts h.keeps.valued o h.keeps.parts ph h.keeps.its_parts) h.keeps.typed
 
 -- a key of a form that is built, in the context of its object
 decided-key : (s : Settings) (b : Bool) (e : Expanded) (at : ℕ) (name : Text) (p : Spot) (i : Inside) (o : Object) (k : List Frame) (n : Node) (outer : Option Node) (opened : List Open) → KeepsAt s false p i o k n →

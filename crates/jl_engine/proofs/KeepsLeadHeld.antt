@@ -55,11 +55,9 @@ one-types c a n b xs own e t =
 
 -- the event that opens a value
 abbrev pub OpensAs : Tree → Event → Type 0
-OpensAs (scalar b v) e = ⊥
 OpensAs (array d xs) (events.OpensArray b) = b ≡ d
-OpensAs (array d xs) e = ⊥
 OpensAs (object d ms) (events.OpensObject b) = b ≡ d
-OpensAs (object d ms) e = ⊥
+OpensAs x e = ⊥
 
 pub one-whole : (c : Context) (a : ℕ) (n : Text) (v : Tree) (e : Event) (more : List Event) → IsWhole (key_of c n) v → OpensAs v e → Held c (member a n v no_member) (events.Key a n ∷ (e ∷ more))
 one-whole c a n (scalar b v) e more w h = absurd w
@@ -70,11 +68,9 @@ one-whole c a n (object b ms) (events.OpensObject d) more w h = (more, ap (λ x.
 one-whole c a n (object b ms) e more w h = absurd h
 
 pub told-whole : (t : Tree) (e : Event) (more : List Event) → OpensAs t e → Told (item t no_item) (e ∷ more)
-told-whole (scalar b v) e more h = absurd h
 told-whole (array b xs) (events.OpensArray d) more h = (more, ap (λ x. events.OpensArray x ∷ more) h)
-told-whole (array b xs) e more h = absurd h
 told-whole (object b ms) (events.OpensObject d) more h = (more, ap (λ x. events.OpensObject x ∷ more) h)
-told-whole (object b ms) e more h = absurd h
+told-whole x e more h = absurd h
 
 pub whole-string : (t : Tree) (e : Event) → OpensAs t e → string_of t ≡ None
 whole-string (scalar b v) e h = absurd h
@@ -105,11 +101,8 @@ lead-stays c (member b m w rest) a n v h = by (is_in_prelude (c ∷ []) m w) h (
 
 pub lead-ends : (c : Context) (ms : Members) (a : ℕ) (n : Text) (v : Tree) → is_in_prelude (c ∷ []) n v ≡ false → all_lead c (held_with ms a n v) ≡ false
 lead-ends c no_member a n v e = ap (λ x. x && true) e
-lead-ends c (member b m w rest) a n v e = ap (λ x. is_in_prelude (c ∷ []) m w && x) (lead-ends c rest a n v e) ∙ by (is_in_prelude (c ∷ []) m w)
-  where
-    by : (x : Bool) → (x && false) ≡ false
-    by true = refl
-    by false = refl
+lead-ends c (member b m w rest) a n v e =
+    ap (λ x. is_in_prelude (c ∷ []) m w && x) (lead-ends c rest a n v e) ∙ elim (is_in_prelude (c ∷ []) m w) as (λ x. (x && false) ≡ false) [ true ↦ refl | false ↦ refl ]
 
 pub length-all : (c : Context) (ms : Members) → all_lead c ms ≡ true → members_length ms ≡ prelude_length (c ∷ []) ms
 length-all c no_member h = refl

@@ -6,7 +6,7 @@ use Rattle.jl_defs.specs.Texts.{Text}
 use Rattle.jl_defs.specs.Settings.{Settings}
 use Rattle.jl_walk.specs.Events.{Event, opens_object, opens_array, closes, a_key, a_scalar}
 use Rattle.jl_walk.specs.Fits.{Fits}
-use Rattle.jl_walk.specs.States.{State, at, leading, leading_key, context_key, running, running_key, in_items, in_members, in_member, Go, go, held_with, add_item}
+use Rattle.jl_walk.specs.States.{State, in_items, in_members, in_member, Go, go, held_with, add_item}
 use Rattle.jl_walk.specs.Running.{step}
 use Rattle.jl_engine.specs.Keeping.{InsideAt}
 
@@ -26,10 +26,6 @@ InsideGoes P d e g = (z : State) × ((g ≡ go z) × AfterEvent P d e z)
 more-items : (P : State → Type 0) (d : ℕ) (b : ℕ) (xs ys : Trees) (back : Tree → State) → InsideAt P d (in_items b xs back) → InsideAt P d (in_items b ys back)
 more-items P zero b xs ys back h = h
 more-items P (suc d) b xs ys back h = h
-
-more-members : (P : State → Type 0) (d : ℕ) (b : ℕ) (ms ns : Members) (back : Tree → State) → InsideAt P d (in_members b ms back) → InsideAt P d (in_members b ns back)
-more-members P zero b ms ns back h = h
-more-members P (suc d) b ms ns back h = h
 
 its-member : (P : State → Type 0) (d : ℕ) (b : ℕ) (ms : Members) (a : ℕ) (n : Text) (back : Tree → State) → InsideAt P d (in_members b ms back) → InsideAt P d (in_member b ms a n back)
 its-member P zero b ms a n back h = h
@@ -61,11 +57,9 @@ items-goes s P d (a_scalar c v) b xs back h f = (in_items b (add_item xs (scalar
 members-goes : (s : Settings) (P : State → Type 0) (d : ℕ) (e : Event) (b : ℕ) (ms : Members) (back : Tree → State) → InsideAt P d (in_members b ms back) → Fits (in_members b ms back) e →
     InsideGoes P d e (step s e (in_members b ms back))
 unfolding step
-members-goes s P d (opens_object c) b ms back h f = absurd f
-members-goes s P d (opens_array c) b ms back h f = absurd f
 members-goes s P d closes b ms back h f = (back (object b ms), (refl, members-close P d b ms back h))
 members-goes s P d (a_key a n) b ms back h f = (in_member b ms a n back, (refl, its-member P d b ms a n back h))
-members-goes s P d (a_scalar c v) b ms back h f = absurd f
+members-goes s P d x b ms back h f = absurd f
 
 member-goes : (s : Settings) (P : State → Type 0) (d : ℕ) (e : Event) (b : ℕ) (ms : Members) (a : ℕ) (n : Text) (back : Tree → State) → InsideAt P d (in_member b ms a n back) → Fits (in_member b ms a n back) e →
     InsideGoes P d e (step s e (in_member b ms a n back))
@@ -83,15 +77,5 @@ pub inside-goes : (s : Settings) (P : State → Type 0) (d : ℕ) (e : Event) (z
 inside-goes s P d e (in_items b xs back) h f = items-goes s P d e b xs back h f
 inside-goes s P d e (in_members b ms back) h f = members-goes s P d e b ms back h f
 inside-goes s P d e (in_member b ms a n back) h f = member-goes s P d e b ms a n back h f
-inside-goes s P zero e (at k) h f = absurd h
-inside-goes s P (suc d) e (at k) h f = absurd h
-inside-goes s P zero e (leading l) h f = absurd h
-inside-goes s P (suc d) e (leading l) h f = absurd h
-inside-goes s P zero e (leading_key l a n) h f = absurd h
-inside-goes s P (suc d) e (leading_key l a n) h f = absurd h
-inside-goes s P zero e (context_key l a n) h f = absurd h
-inside-goes s P (suc d) e (context_key l a n) h f = absurd h
-inside-goes s P zero e (running q) h f = absurd h
-inside-goes s P (suc d) e (running q) h f = absurd h
-inside-goes s P zero e (running_key q a n) h f = absurd h
-inside-goes s P (suc d) e (running_key q a n) h f = absurd h
+inside-goes s P zero e y h f = absurd h
+inside-goes s P (suc d) e y h f = absurd h

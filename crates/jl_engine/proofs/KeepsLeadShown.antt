@@ -3,7 +3,7 @@ use Rattle.std.proofs.Common.{ℕ, ◌≡◌, refl, sym, ◌∙◌, ap, Bool, tr
 use Rattle.std.specs.Prelude.{zero}
 use Rattle.jl_model.specs.JsonTree.{Tree, scalar, array, object, Trees, Members, no_member, member}
 use Rattle.jl_model.specs.declared.scalars.Scalar.{Scalar}
-use Rattle.jl_model.specs.declared.scalars.Scalar.TheVariants.{Null, Bool as boolean, Number, Str}
+use Rattle.jl_model.specs.declared.scalars.Scalar.TheVariants.{Str}
 use Rattle.jl_model.specs.declared.expansions.Expanded.{Expanded}
 use Rattle.jl_defs.specs.Texts.{Text}
 use Rattle.jl_defs.specs.Trees.{string_of}
@@ -41,11 +41,7 @@ or-none (Some v) = refl
 
 pub held-first : (test : Key → Bool) (c : Context) (ms : Members) (a : ℕ) (n : Text) (v : Tree) →
     first_with test c (held_with ms a n v) ≡ or_first (first_with test c ms) (picked (test (key_of c n)) v)
-held-first test c no_member a n v = by (test (key_of c n))
-  where
-    by : (x : Bool) → elim x [ true ↦ Some v | false ↦ None ] ≡ picked x v
-    by true = refl
-    by false = refl
+held-first test c no_member a n v = elim (test (key_of c n)) as (λ x. elim x [ true ↦ Some v | false ↦ None ] ≡ picked x v) [ true ↦ refl | false ↦ refl ]
 held-first test c (member b m w rest) a n v = by (test (key_of c m)) (held-first test c rest a n v)
   where
     by : (x : Bool) → first_with test c (held_with rest a n v) ≡ or_first (first_with test c rest) (picked (test (key_of c n)) v) →
@@ -95,9 +91,7 @@ some-or (Some w) v = refl
 
 scalar-name : (c : Context) (b : ℕ) (v : Scalar) → naming_shown (name_of c v) ≡ naming_of c (string_of (scalar b v))
 scalar-name c b (Str text) = refl
-scalar-name c b Null = refl
-scalar-name c b (boolean x) = refl
-scalar-name c b (Number x) = refl
+scalar-name c b y = refl
 
 -- the first `@id` shows the name
 first-name : (c : Context) (f : Option Tree) (v : Tree) (m : Lead) (o : Option Expanded) → m.named ≡ is_some f → naming_shown m.name ≡ naming_of c (id_text f) → naming_shown o ≡ naming_of c (string_of v) →
@@ -109,9 +103,7 @@ first-name c (Some w) v m o e g h = ap (λ x. naming_shown (first_of x m.name o)
 
 pub scalar-json : (b : ℕ) (v : Scalar) → is_json v ≡ json_text (string_of (scalar b v))
 scalar-json b (Str text) = refl
-scalar-json b Null = refl
-scalar-json b (boolean x) = refl
-scalar-json b (Number x) = refl
+scalar-json b y = refl
 
 -- the first `@type` shows whether it is `@json`
 first-json : (f : Option Tree) (v : Tree) (m : Lead) (x : Bool) → m.typed ≡ is_some f → m.json ≡ json_first f → x ≡ json_text (last_of v) →
@@ -154,12 +146,7 @@ shows-scalar c ms a n b v m e t h =
 
 typed-scalar-by : (c : Context) (q : Key) (v : Scalar) (t : Tree) (g : Option Tree) (m : Lead) → m.typed ≡ is_some g → (shows c (class_of q) v m).typed ≡ is_some (or_first g (picked (is_kind q) t))
 typed-scalar-by c kind v t g m e = some-or g t
-typed-scalar-by c id v t g m e = e ∙ ap is_some (sym (or-none g))
-typed-scalar-by c value v t g m e = e ∙ ap is_some (sym (or-none g))
-typed-scalar-by c language v t g m e = e ∙ ap is_some (sym (or-none g))
-typed-scalar-by c direction v t g m e = e ∙ ap is_some (sym (or-none g))
-typed-scalar-by c index v t g m e = e ∙ ap is_some (sym (or-none g))
-typed-scalar-by c q v t g m e = e ∙ ap is_some (sym (or-none g))
+typed-scalar-by c x v t g m e = e ∙ ap is_some (sym (or-none g))
 
 pub typed-scalar : (c : Context) (ms : Members) (a : ℕ) (n : Text) (b : ℕ) (v : Scalar) (m : Lead) → m.typed ≡ is_some (first_with is_kind c ms) →
     (shows c (class_of (key_of c n)) v m).typed ≡ is_some (first_with is_kind c (held_with ms a n (scalar b v)))
@@ -170,10 +157,7 @@ typed-scalar c ms a n b v m e =
 pub shows-by : (c : Context) (k : Class) (v : Scalar) (place : ℕ) (es : List Event) (part : LeadPart) (spot : LeadSpot) (m : Lead) →
     shows c k v (lead_by place es part spot m) ≡ lead_by place es part spots.Between (shows c k v m)
 shows-by c class.Identifier v place es part spot m = refl
-shows-by c class.Kind v place es part spot m = refl
-shows-by c class.Value v place es part spot m = refl
-shows-by c class.Aside v place es part spot m = refl
-shows-by c class.Other v place es part spot m = refl
+shows-by c x v place es part spot m = refl
 
 -- ---- an array of types
 
@@ -215,10 +199,7 @@ with_whole k m = m
 pub opens-by : (k : Class) (place : ℕ) (es : List Event) (part : LeadPart) (spot : LeadSpot) (m : Lead) →
     opens_whole k (lead_by place es part spot m) ≡ holds (lead_by place es (part_after k) (spots.Inside zero) (with_whole k m))
 opens-by class.Identifier place es part spot m = refl
-opens-by class.Kind place es part spot m = refl
-opens-by class.Value place es part spot m = refl
-opens-by class.Aside place es part spot m = refl
-opens-by class.Other place es part spot m = refl
+opens-by x place es part spot m = refl
 
 -- no scalar, and no array of types
 abbrev pub IsWhole : Key → Tree → Type 0

@@ -10,21 +10,21 @@ use Rattle.jl_defs.specs.Settings.{Settings}
 use Rattle.jl_defs.specs.Keys.{Key, kind, id, value, language, direction, index, key_of, is_leading, is_kind, is_value}
 use Rattle.jl_defs.specs.ObjectContexts.{fault, Inside, Look, look_at_key, is_context_name, leads_in, types_in, type_keys, input_type, decide_by, candidates}
 use Rattle.jl_defs.specs.ValueObjects as objects
-use Rattle.jl_defs.specs.ValueObjects.{first_with}
+use Rattle.jl_defs.specs.ValueObjects.{first_with, is_json_type, type_of_values, all_with}
 use Rattle.jl_prelude.specs.Classes.{class_of}
 use Rattle.jl_prelude.specs.declared.classes.Class.{Class}
 use Rattle.jl_prelude.specs.declared.classes.Class.TheVariants as class
 use Rattle.jl_laws.specs.Spots.{Spot, stand_of}
-use Rattle.jl_walk.specs.Phases.{Phase, any_time, at_start, in_lead, in_run, in_rest, run_until, follow, is_rest, prelude_length}
-use Rattle.jl_walk.specs.Frames.{Frame, values, object as object_frame, types, dropped}
+use Rattle.jl_walk.specs.Phases.{Phase, at_start, in_lead, in_run, in_rest, run_until, follow, is_rest, prelude_length, rest_at, phase_faults}
+use Rattle.jl_walk.specs.Frames.{Frame, object as object_frame, Expected, no_value, Object}
 use Rattle.jl_walk.specs.Steps as steps
-use Rattle.jl_walk.specs.Steps.{then_goes}
+use Rattle.jl_walk.specs.Steps.{then_goes, Step, quiet, unless_fault, if_built}
 use Rattle.jl_walk.specs.Scalars.{take_scalar}
-use Rattle.jl_walk.specs.Opening.{open_array, enter_at, enter}
-use Rattle.jl_walk.specs.Keys.{take_key}
+use Rattle.jl_walk.specs.Opening.{open_array, enter_at, enter, Entering, fresh}
+use Rattle.jl_walk.specs.Keys.{take_key, with_phase, key_of_object}
 use Rattle.jl_walk.specs.Ending.{close}
 use Rattle.jl_walk.specs.Feeding.{entering_as, feed_members}
-use Rattle.jl_walk.specs.Fits.{FitsFrames, FitsMembers}
+use Rattle.jl_walk.specs.Fits.{FitsFrames, FitsMembers, FitsObject}
 use Rattle.jl_walk.specs.Running as walk
 use Rattle.jl_walk.specs.Running.{contexts_of, may_lead, may_type, held_looks, contexts_by, if_decided, second_of, run_key, ending_key, top_spot, opened, opens, takes, value_step, nothing_held}
 use Rattle.jl_walk.specs.States as states
@@ -33,10 +33,10 @@ use Rattle.jl_frames.specs.Machine as frames
 use Rattle.jl_frames.specs.ReadAs.{read_as}
 use Rattle.jl_frames.specs.declared.states.StackState.{StackState}
 use Rattle.jl_engine.specs.Moves.{opens_array, opens_other, takes_key, takes_scalar}
-use Rattle.jl_engine.specs.Leads.{begun, Admits, holds, decides, refuses, goes_on, is_empty}
-use Rattle.jl_engine.specs.Reading.{on_stack, takes_value, opens_object, at_step, settles_then, by_admits, step}
+use Rattle.jl_engine.specs.Leads.{begun, Admits, holds, decides, refuses, goes_on, is_empty, frame_by}
+use Rattle.jl_engine.specs.Reading.{on_stack, takes_value, opens_object, at_step, settles_then, by_admits, step, Read, replay, enters, settles}
 use Rattle.jl_engine.specs.TreeEvents.{walked}
-use Rattle.jl_engine.specs.KeepsFrames.{KeepsFrames, plain_inside, node_valued, AgreesFrames, InRest}
+use Rattle.jl_engine.specs.KeepsFrames.{KeepsFrames, plain_inside, node_valued, AgreesFrames, InRest, KeepsIn}
 use Rattle.jl_engine.specs.Keeping.{AllRest, StandsAt, json_first, Shows, HeldArray, Held, KeysLead, all_lead, lead_by, reader_by, KeepsLead, KeepsRun, PartIs, between, Agrees}
 use Rattle.jl_engine.specs.declared.events.Event.{Event}
 use Rattle.jl_engine.specs.declared.events.Event.TheVariants as events
@@ -46,23 +46,171 @@ use Rattle.jl_engine.specs.declared.leads.LeadPart.TheVariants as parts
 use Rattle.jl_engine.specs.declared.leads.LeadSpot.{LeadSpot}
 use Rattle.jl_engine.specs.declared.leads.LeadSpot.TheVariants as spots
 use Rattle.jl_engine.specs.declared.readers.Reader.{Reader}
-use Rattle.jl_engine.proofs.KeepsFrames.{keeps-array, keeps-close, keeps-key, keeps-other, keeps-scalar, value-here}
+use Rattle.jl_engine.proofs.KeepsFrames.{keeps-array, keeps-close, keeps-key, keeps-other, keeps-scalar, value-here, keeps-enter}
 use Rattle.jl_engine.proofs.KeepsLeadSpots.{spot-plain}
-use Rattle.jl_engine.proofs.KeepsLeadAgrees.{AgreesTo, agrees-then, plain_reader, on-frames, forget-valued, Settled, agrees-settled, settled-so}
-use Rattle.jl_engine.proofs.KeepsLeadRests.{RestsIn, array-rests, other-rests, scalar-rests, key-rests, close-rests}
-use Rattle.jl_engine.proofs.KeepsLeadTypes.{nothing-last, key-last, plain-candidates, plain-decided, input-shown}
-use Rattle.jl_engine.proofs.KeepsLeadTells.{AfterMembers, last_phase}
-use Rattle.jl_engine.proofs.KeepsLeadSettles.{settling, rest-follows, rest-key, rest-close}
+use Rattle.jl_engine.proofs.KeepsLeadAgrees.{AgreesTo, agrees-then, plain_reader, on-frames, forget-valued, Settled, agrees-settled, settled-so, agrees-go, in-lead, OnLeading, on-leading, RestsIn, array-rests, other-rests, scalar-rests, key-rests, close-rests, close-begins}
+use Rattle.jl_engine.proofs.KeepsLeadTypes.{nothing-last, key-last, plain-candidates, plain-decided, input-shown, json-shown}
+use Rattle.jl_engine.proofs.KeepsLeadTells.{AfterMembers, last_phase, all-tell, OnObject, step-on, unless-object}
 use Rattle.jl_engine.proofs.KeepsLeadHeld.{length-all}
+use Rattle.std.specs.Prelude.{zero}
+use Rattle.jl_defs.specs.LateKeys.{if_so}
+use Rattle.jl_walk.specs.Stage.{is_built_key}
+use Rattle.jl_walk.specs.Events as tree
+use Rattle.jl_frames.specs.declared.nodes.Node.{Node}
+use Rattle.jl_frames.specs.declared.opens.Open.{Open}
+use Rattle.jl_frames.specs.declared.opens.Open.TheVariants as stack
+use Rattle.jl_engine.proofs.KeepsLater.{built-no-context}
+use Rattle.jl_engine.proofs.KeepsKeys.{phase-at}
+
+-- ---- it enters
+
+-- the object as what is held decides and names it
+abbrev pub held_entering : Settings → Expanded → Members → Entering
+held_entering s input ms = entering_as (at_start (prelude_length (initial s.base ∷ []) ms)) (plain_inside s input) ms
+
+or-none : (x y : Bool) → (x || y) ≡ false → x ≡ false
+or-none true y e = absurd cc
+or-none false y e = refl
+
+and-so : (x y : Bool) → (x && y) ≡ false → x ≡ true → y ≡ false
+and-so true y e h = e
+and-so false y e h = absurd cc
+
+-- a JSON literal stops it; else it enters
+abbrev enters_by : Bool → ℕ → Option Expanded → Bool → StackState → Read
+enters_by json place name valued st = elim json [
+  | true ↦ Err (fault code.NotYet place)
+  | false ↦ on_stack (frames.enter (frame_by place name valued) st) (plain_reader st)
+]
+
+pub entering-keeps : (s : Settings) (p : Spot) (place : ℕ) (input : Expanded) (k : List Frame) (st : StackState) (ms : Members) (es : List Event) (m : Lead) (part : LeadPart) (spot : LeadSpot) →
+    StandsAt s p k st → Shows (initial s.base) ms m → objects.is_json input ≡ json_first (first_with is_kind (initial s.base) ms) →
+    AgreesTo (OnObject s p (plain_inside s input) k (at_start (prelude_length (initial s.base ∷ []) ms)) no_value (is_some (first_with is_value (initial s.base) ms)))
+    (enter_at p place (Ok (held_entering s input ms)) k) (enters (lead_by place es part spot m) (plain_reader st))
+entering-keeps s p place input k st ms es m part spot h shows j =
+    subst (λ t. AgreesTo Q (enter_at p place (Ok e) k) t) (sym same) (by (v && e.json) refl)
+  where
+    c : Context
+    c = initial s.base
+
+    i : Inside
+    i = plain_inside s input
+
+    e : Entering
+    e = held_entering s input ms
+
+    v : Bool
+    v = is_some (first_with is_value c ms)
+
+    Q : List Frame → Reader → Type 0
+    Q = OnObject s p i k (at_start (prelude_length (c ∷ []) ms)) no_value v
+
+    same : enters (lead_by place es part spot m) (plain_reader st) ≡ enters_by (v && e.json) place m.name v st
+    same =
+        ap (λ x. enters_by (x && m.json) place m.name x st) shows.valued
+        ∙ ap (λ x. enters_by (v && x) place m.name v st) (shows.json ∙ sym (json-shown s.base ms (objects.is_json input) j))
+
+    next : List Frame
+    next = object_frame p i (fresh p place e) ∷ k
+
+    by : (x : Bool) → (v && e.json) ≡ x → AgreesTo Q (if_built (not x) place (λ _. quiet next)) (enters_by x place m.name v st)
+    by true f = refl
+    by false f =
+        unless-object s p i k (at_start (prelude_length (c ∷ []) ms)) no_value v [] [] (fresh p place e) (enters_by false place m.name v st) refl refl
+        (subst (λ x. AgreesTo (OnLeading s v) (if_built (not x) place (λ _. quiet next)) (enters_by false place m.name v st)) f
+        (on-leading s v (enter_at p place (Ok e) k) (frames.enter (frame_by place m.name v) st) st
+        (keeps-enter s place e m.name p k st h.keeps h.top refl shows.name f (λ t. or-none (objects.is_json input) _ (and-so v e.json f t)))))
+
+-- it enters, and what was held is told
+pub settling : (s : Settings) (p : Spot) (place : ℕ) (input : Expanded) (k : List Frame) (st : StackState) (ms : Members) (es : List Event) (m : Lead) (part : LeadPart) (spot : LeadSpot) →
+    StandsAt s p k st → Held (initial s.base) ms es → KeysLead (initial s.base) ms → Shows (initial s.base) ms m → objects.is_json input ≡ json_first (first_with is_kind (initial s.base) ms) →
+    AgreesTo (AfterMembers s p (plain_inside s input) k (last_phase ms) (is_some (first_with is_value (initial s.base) ms)) (all_lead (initial s.base) ms))
+    (then_goes (enter_at p place (Ok (held_entering s input ms)) k) (feed_members s ms)) (settles (initial s.base) (lead_by place es part spot m) (plain_reader st))
+settling s p place input k st ms es m part spot h held keys shows j =
+    let c = initial s.base in
+    let i = plain_inside s input in
+    let v = is_some (first_with is_value c ms) in
+    agrees-then (OnObject s p i k (at_start (prelude_length (c ∷ []) ms)) no_value v) (AfterMembers s p i k (last_phase ms) v (all_lead c ms))
+    (enter_at p place (Ok (held_entering s input ms)) k) (enters (lead_by place es part spot m) (plain_reader st)) (feed_members s ms) (replay c es)
+    (entering-keeps s p place input k st ms es m part spot h shows j)
+    (λ l r x. all-tell s input p k v ms es l r held keys (λ t. t) x)
+
+-- ---- its rest begins
+
+-- the phase isn't kept
+phase-in : (s : Settings) (p : Spot) (i : Inside) (o : Object) (k : List Frame) (ph : Phase) (n : Option Node) (opened : List Open) →
+    KeepsIn s false (object_frame p i o ∷ k) n opened → KeepsIn s false (object_frame p i (with_phase ph o) ∷ k) n opened
+phase-in s p i o k ph (Some n) (stack.Object outer ∷ opened) h = (phase-at s false p i o k n ph h.0, h.1)
+phase-in s p i o k ph n opened h = absurd h
+
+-- the key after the prelude is one of the rest
+pub rest-follows : (s : Settings) (input : Expanded) (n : Text) → is_leading (key_of (initial s.base) n) ≡ false → follow (in_lead zero) (plain_inside s input) n ≡ in_rest
+rest-follows s input n e = ap (λ x. run_until (not x || false)) e
+
+pub last-follows : (s : Settings) (input : Expanded) (n : Text) (ms : Members) → is_leading (key_of (initial s.base) n) ≡ false → follow (last_phase ms) (plain_inside s input) n ≡ in_rest
+last-follows s input n no_member e = rest-follows s input n e
+last-follows s input n (member a m v rest) e = rest-follows s input n e
+
+last-faults : (s : Settings) (input : Expanded) (a : ℕ) (n : Text) (ms : Members) → is_leading (key_of (initial s.base) n) ≡ false → is_context_name n ≡ false →
+    phase_faults (last_phase ms) (plain_inside s input) n a ≡ phase_faults in_rest (plain_inside s input) n a
+last-faults s input a n no_member e h =
+    ap (λ x. rest_at x (plain_inside s input) n a) (rest-follows s input n e)
+    ∙ ap (λ x. if_so x (fault code.LateContext a ∷ []) ++ rest_at in_rest (plain_inside s input) n a) (sym h)
+last-faults s input a n (member b m v rest) e h =
+    ap (λ x. if_so (is_context_name n) (fault code.LateContext a ∷ []) ++ rest_at x (plain_inside s input) n a) (rest-follows s input n e)
+
+rest-same : (s : Settings) (input : Expanded) (a : ℕ) (n : Text) (p : Spot) (o : Object) (k : List Frame) →
+    (let i = plain_inside s input in
+    (is_context_name n ≡ false → phase_faults o.phase i n a ≡ phase_faults in_rest i n a) → follow o.phase i n ≡ in_rest →
+    take_key a n (object_frame p i o ∷ k) ≡ take_key a n (object_frame p i (with_phase in_rest o) ∷ k))
+unfolding take_key
+rest-same s input a n p o k e f = by (is_built_key (key_of i.final n) None) refl
+  where
+    i : Inside
+    i = plain_inside s input
+
+    next : Phase → Unit {0} → Step
+    next ph _ = key_of_object (key_of i.final n) a n p i (with_phase ph o) k
+
+    by : (b : Bool) → is_built_key (key_of i.final n) None ≡ b →
+        if_built b a (λ _. unless_fault (phase_faults o.phase i n a) (next (follow o.phase i n))) ≡ if_built b a (λ _. unless_fault (phase_faults in_rest i n a) (next in_rest))
+    by false h = refl
+    by true h =
+        ap (λ fs. unless_fault fs (next (follow o.phase i n))) (e (built-no-context s.base n h)) ∙ ap (λ ph. unless_fault (phase_faults in_rest i n a) (next ph)) f
+
+pub rest-key : (s : Settings) (input : Expanded) (a : ℕ) (n : Text) (p : Spot) (k : List Frame) (v all : Bool) (ms : Members) (l : List Frame) (r : Reader) → AllRest k →
+    is_leading (key_of (initial s.base) n) ≡ false → AfterMembers s p (plain_inside s input) k (last_phase ms) v all l r →
+    AgreesTo (Settled s) (take_key a n l) (at_step (initial s.base) false (events.Key a n) r)
+rest-key s input a n p k v all ms l r rests e h =
+    let c = initial s.base in
+    let i = plain_inside s input in
+    let x = h.0 in
+    let o = x.said in
+    let top = object_frame p i (with_phase in_rest o) ∷ k in
+    let keeps : KeepsFrames s top x.stack = (x.keeps.0, phase-in s p i o k in_rest x.stack.node x.stack.opens x.keeps.1) in
+    let same = rest-same s input a n p o k (λ no. ap (λ y. phase_faults y i n a) x.phase ∙ last-faults s input a n ms e no) (ap (λ y. follow y i n) x.phase ∙ last-follows s input n ms e) in
+    step-on (Settled s) (take_key a n) (at_step c false (events.Key a n)) l (object_frame p i o ∷ k) r (plain_reader x.stack) x.frames x.reader
+    (subst (λ y. AgreesTo (Settled s) y (at_step c false (events.Key a n) (plain_reader x.stack))) (sym same)
+    (settled-so s (take_key a n top) (at_step c false (events.Key a n) (plain_reader x.stack)) (key-rests a n top (refl, rests))
+    (on-frames s (take_key a n top) _ x.stack (keeps-key s a n top x.stack keeps refl))))
+
+-- ---- it closes
+
+pub rest-close : (s : Settings) (p : Spot) (i : Inside) (k : List Frame) (ph : Phase) (v all : Bool) (l : List Frame) (r : Reader) → AllRest k → AfterMembers s p i k ph v all l r →
+    AgreesTo (Settled s) (close l) (at_step (initial s.base) false events.Closes r)
+rest-close s p i k ph v all l r rests h =
+    let c = initial s.base in
+    let x = h.0 in
+    let top = object_frame p i x.said ∷ k in
+    step-on (Settled s) close (at_step c false events.Closes) l top r (plain_reader x.stack) x.frames x.reader
+    (settled-so s (close top) (at_step c false events.Closes (plain_reader x.stack)) (close-begins (object_frame p i x.said) k rests)
+    (on-frames s (close top) _ x.stack (keeps-close s top x.stack x.keeps (subst (λ (y : Expected). FitsObject y tree.closes) (sym x.expects) tt))))
 
 -- ---- where no object is held
 
 in-rest : (k : List Frame) → AllRest k → InRest k
-in-rest [] h = tt
-in-rest (values p ∷ k) h = tt
 in-rest (object_frame p i o ∷ k) h = h.0
-in-rest (types b n g a ∷ k) h = tt
-in-rest (dropped ∷ k) h = tt
+in-rest x h = tt
 
 settled-step : (s : Settings) (x : steps.Step) (t : frames.Step) (st : StackState) → RestsIn x → AgreesFrames s x t → Agrees s (settle x) (on_stack t (plain_reader st))
 settled-step s x t st r h = agrees-settled s x (on_stack t (plain_reader st)) (settled-so s x (on_stack t (plain_reader st)) r (on-frames s x t st h))
@@ -76,33 +224,16 @@ object-opens s b k st h r =
     by None e =
         settled-step s (enter b (λ p. Err (fault code.NotYet b)) k) (opens_other b st) st (other-rests b (fault code.NotYet b) k r)
         (forget-valued s (node_valued st.node) (enter b (λ p. Err (fault code.NotYet b)) k) (opens_other b st) (keeps-other s b (λ p. Err (fault code.NotYet b)) k st (node_valued st.node) h refl e))
-    by (Some p) e = (
-      reader_by st (begun b),
-      (
-        refl,
-        between (
-          st,
-          (
-            [],
-            (
-              begun b,
-              (
-                refl,
-                record {
-                  stands = record { top = e; keeps = h; rests = r };
-                  first = refl;
-                  held = refl;
-                  keys = tt;
-                  leads = refl;
-                  shows = record { named = refl; name = refl; valued = refl; json = refl };
-                  typed = refl;
-                },
-              ),
-            ),
-          ),
-        ),
-      ),
-    )
+    by (Some p) e =
+        agrees-go s _ _ _ (reader_by st (begun b)) refl refl (between (in-lead s (record { spot = p; place = b; first = no_member; held = no_member; frames = k }) [] [] (begun b) st refl (record {
+          stands = record { top = e; keeps = h; rests = r };
+          first = refl;
+          held = refl;
+          keys = tt;
+          leads = refl;
+          shows = record { named = refl; name = refl; valued = refl; json = refl };
+          typed = refl;
+        })))
 
 pub at-steps : (s : Settings) (e : Event) (k : List Frame) (st : StackState) → KeepsFrames s k st → AllRest k → FitsFrames k (walked e) →
     Agrees s (walk.step s (walked e) (at k)) (step (initial s.base) e (plain_reader st))
@@ -202,21 +333,13 @@ lead-closes s p b held k es m st e h =
 nothing-empty : (c : Context) (held : Members) (es : List Event) → Held c held es → nothing_held no_member held ≡ is_empty es
 nothing-empty c no_member es h = ap is_empty (sym h)
 nothing-empty c (member a n (scalar b v) rest) es h = ap is_empty (sym h.1.0)
-nothing-empty c (member a n (array b xs) rest) es h = by (is_kind (key_of c n)) h
-  where
-    by : (x : Bool) → HeldArray x a n b xs (Held c rest) es → false ≡ is_empty es
-    by true g = ap is_empty (sym g.1.1.0)
-    by false g = ap is_empty (sym g.1)
+nothing-empty c (member a n (array b xs) rest) es h =
+    (elim (is_kind (key_of c n)) as (λ x. HeldArray x a n b xs (Held c rest) es → false ≡ is_empty es) [ true ↦ λ g. ap is_empty (sym g.1.1.0) | false ↦ λ g. ap is_empty (sym g.1) ]) h
 nothing-empty c (member a n (object b ms) rest) es h = ap is_empty (sym h.1)
 
 goes-prelude : (q : Key) → goes_on parts.Prelude (class_of q) ≡ is_leading q
 goes-prelude id = refl
-goes-prelude kind = refl
-goes-prelude value = refl
-goes-prelude language = refl
-goes-prelude direction = refl
-goes-prelude index = refl
-goes-prelude q = refl
+goes-prelude x = refl
 
 -- what the reader does with a key
 abbrev key_admits : Bool → Bool → ℕ → Class → Lead → Admits
@@ -274,9 +397,7 @@ pub lead-steps : (s : Settings) (e : Event) (p : Spot) (b : ℕ) (held : Members
 unfolding step walk.step
 lead-steps s (events.Key a n) p b held k es m st h f = lead-key s p b held k es m st a n (spot-plain s k st p h.stands.keeps h.stands.top) h
 lead-steps s events.Closes p b held k es m st h f = lead-closes s p b held k es m st (spot-plain s k st p h.stands.keeps h.stands.top) h
-lead-steps s (events.OpensObject d) p b held k es m st h f = absurd f
-lead-steps s (events.OpensArray d) p b held k es m st h f = absurd f
-lead-steps s (events.Value d v) p b held k es m st h f = absurd f
+lead-steps s x p b held k es m st h f = absurd f
 
 -- ---- an object in its second run: it stops once it has entered
 
@@ -308,9 +429,7 @@ part-key : (s : Settings) (input : Expanded) (n : Text) (ph : Phase) (part : Lea
     GoesOn part (key_of (initial s.base) n) (follow ph (plain_inside s input) n) ⊎ ((goes_on part (class_of (key_of (initial s.base) n)) ≡ false) × (follow ph (plain_inside s input) n ≡ in_rest))
 part-key s input n in_run part h = run-key (key_of (initial s.base) n) part h
 part-key s input n in_rest part h = inr (ap (λ x. goes_on x (class_of (key_of (initial s.base) n))) h, refl)
-part-key s input n any_time part h = absurd h
-part-key s input n (at_start left) part h = absurd h
-part-key s input n (in_lead left) part h = absurd h
+part-key s input n x part h = absurd h
 
 -- something is held
 held-some : (c : Context) (held : Members) (es : List Event) → Held c held es → all_lead c held ≡ false → is_empty es ≡ false
@@ -380,6 +499,4 @@ pub run-steps : (s : Settings) (e : Event) (q : Second) (input : Expanded) (es :
 unfolding step walk.step
 run-steps s (events.Key a n) q input es m st part h pt f = run-key-steps s q input es m st part a n h pt
 run-steps s events.Closes q input es m st part h pt f = run-settles s q input es m st part spots.Between close events.Closes h
-run-steps s (events.OpensObject d) q input es m st part h pt f = absurd f
-run-steps s (events.OpensArray d) q input es m st part h pt f = absurd f
-run-steps s (events.Value d v) q input es m st part h pt f = absurd f
+run-steps s x q input es m st part h pt f = absurd f

@@ -2,9 +2,9 @@
 use Rattle.std.proofs.Common.{ℕ, ◌≡◌, refl, sym, ◌∙◌, ap, if◌then◌else◌, Bool, true, false, ◌||◌, List, [], ◌∷◌, filter, Option, Some, None, Ok, codes, bytes_eq}
 use Rattle.std.specs.List.{list_any}
 use Rattle.std.proofs.lemmas.Slice.Eq.{bytes_eq-Decides}
-use Rattle.jl_model.specs.JsonTree.{Tree, scalar, array, object, Members, no_member, member}
+use Rattle.jl_model.specs.JsonTree.{Tree, scalar, Members, no_member, member}
 use Rattle.jl_model.specs.Resolve.{resolve}
-use Rattle.jl_model.specs.declared.scalars.Scalar.TheVariants.{Null, Bool as boolean, Number, Str}
+use Rattle.jl_model.specs.declared.scalars.Scalar.TheVariants.{Null, Str}
 use Rattle.jl_model.specs.declared.expansions.Expanded.{Expanded}
 use Rattle.jl_model.specs.declared.expansions.Expanded.TheVariants as expanded
 use Rattle.jl_defs.specs.Texts.{Text, is_iri, is_before, is_colon, is_keyword, has_keyword_form}
@@ -26,11 +26,7 @@ abbrev IsName : Expanded → Type 0
 IsName e = (is_json e ≡ false) × (is_kind (key_by e) ≡ false)
 
 name-key : (text : Text) → is_kind (key_by (expanded.Name text)) ≡ false
-name-key text = by (list_any is_colon text)
-  where
-    by : (x : Bool) → is_kind (elim x [ true ↦ property text | false ↦ dropped ]) ≡ false
-    by true = refl
-    by false = refl
+name-key text = elim (list_any is_colon text) as (λ x. is_kind (elim x [ true ↦ property text | false ↦ dropped ]) ≡ false) [ true ↦ refl | false ↦ refl ]
 
 vocab-name : (b : Option Text) (text : Text) (r : Bool) → IsName (by_vocab (initial b) text true r)
 vocab-name None text true = (refl, name-key text)
@@ -38,19 +34,12 @@ vocab-name (Some base) text true = (refl, name-key (resolve base text))
 vocab-name b text false = (refl, name-key text)
 
 iri-name : (b : Option Text) (text : Text) (r : Bool) → IsName (by_iri (initial b) text true r)
-iri-name b text r = by (is_iri text)
-  where
-    by : (x : Bool) → IsName (elim x [ true ↦ expanded.Name text | false ↦ by_vocab (initial b) text true r ])
-    by true = (refl, name-key text)
-    by false = vocab-name b text r
+iri-name b text r = elim (is_iri text) as (λ x. IsName (elim x [ true ↦ expanded.Name text | false ↦ by_vocab (initial b) text true r ])) [ true ↦ (refl, name-key text) | false ↦ vocab-name b text r ]
 
 prefix-name : (b : Option Text) (text : Text) (r : Bool) (k : Option Compact) → IsName (by_prefix (initial b) text true r k)
 prefix-name b text r None = vocab-name b text r
-prefix-name b text r (Some k) = by (has_no_prefix k)
-  where
-    by : (x : Bool) → IsName (elim x [ true ↦ expanded.Name text | false ↦ by_iri (initial b) text true r ])
-    by true = (refl, name-key text)
-    by false = iri-name b text r
+prefix-name b text r (Some k) =
+    elim (has_no_prefix k) as (λ x. IsName (elim x [ true ↦ expanded.Name text | false ↦ by_iri (initial b) text true r ])) [ true ↦ (refl, name-key text) | false ↦ iri-name b text r ]
 
 -- another text than this keyword
 not-this : (text k : Text) → is_keyword k ≡ true → is_keyword text ≡ false → bytes_eq text k ≡ false
@@ -165,19 +154,11 @@ input-json b looks =
 
 look-name : (n : Text) (v : Tree) → (look_at n v).name ≡ n
 look-name n (scalar b Null) = refl
-look-name n (scalar b (boolean x)) = refl
-look-name n (scalar b (Number x)) = refl
-look-name n (scalar b (Str x)) = refl
-look-name n (array b xs) = refl
-look-name n (object b ms) = refl
+look-name n x = refl
 
 last-look : (n : Text) (v : Tree) → (look_at n v).last ≡ last_of v
 last-look n (scalar b Null) = refl
-last-look n (scalar b (boolean x)) = refl
-last-look n (scalar b (Number x)) = refl
-last-look n (scalar b (Str x)) = refl
-last-look n (array b xs) = refl
-last-look n (object b ms) = refl
+last-look n x = refl
 
 held-last : (c : Context) (held : Members) (more : List Look) → json_text (head_last (filter (means_kind c) more)) ≡ false →
     json_text (head_last (filter (means_kind c) (held_looks held more))) ≡ json_first (first_with is_kind c held)
@@ -197,11 +178,7 @@ pub nothing-last : (c : Context) → json_text (head_last (filter (means_kind c)
 nothing-last c = refl
 
 pub key-last : (c : Context) (n : Text) → json_text (head_last (filter (means_kind c) (look_at_key n ∷ []))) ≡ false
-key-last c n = by (is_kind (key_of c n))
-  where
-    by : (x : Bool) → json_text (head_last (if x then look_at_key n ∷ [] else [])) ≡ false
-    by true = refl
-    by false = refl
+key-last c n = elim (is_kind (key_of c n)) as (λ x. json_text (head_last (if x then look_at_key n ∷ [] else [])) ≡ false) [ true ↦ refl | false ↦ refl ]
 
 -- ---- deciding
 
@@ -216,9 +193,7 @@ final-same s b (text ∷ texts) = final-same s b texts
 
 pub plain-candidates : (s : Settings) (b : Option Text) (under : Under) (stand : Stand) (at : ℕ) → candidates s (initial b) under stand at None ≡ initial b ∷ []
 plain-candidates s b no_property stand at = refl
-plain-candidates s b graph_property stand at = refl
-plain-candidates s b reverse_property stand at = refl
-plain-candidates s b (property_of name) stand at = refl
+plain-candidates s b x stand at = refl
 
 pub plain-decided : (s : Settings) (b : Option Text) (under : Under) (stand : Stand) (at : ℕ) (looks : List Look) → decide_by s (initial b) under stand at None looks ≡ Ok (plain_inside b stand looks)
 plain-decided s b no_property stand at looks =
@@ -252,11 +227,7 @@ first-head c (member a n v rest) = by (first-head c rest) (is_kind (key_of c n))
 
 string-type : (b : Option Text) (v : Tree) → is_json_type (objects.type_of_string (initial b) (string_of v)) ≡ true → json_text (last_of v) ≡ true
 string-type b (scalar c (Str text)) e = sym (json-expands b text true) ∙ e
-string-type b (scalar c Null) e = absurd cc
-string-type b (scalar c (boolean x)) e = absurd cc
-string-type b (scalar c (Number x)) e = absurd cc
-string-type b (array c xs) e = absurd cc
-string-type b (object c ms) e = absurd cc
+string-type b x e = absurd cc
 
 values-type : (b : Option Text) (vs : List Tree) → is_json_type (type_of_values (initial b) vs) ≡ true → json_first (head_of vs) ≡ true
 values-type b [] e = absurd cc

@@ -1,14 +1,14 @@
 -- The first event of a value, after a key of an object that is held.
 use Rattle.std.proofs.Common.{ℕ, ◌≡◌, refl, sym, ◌∙◌, ap, subst, Bool, true, false, not, ◌&&◌, List, [], ◌∷◌, ◌++◌, Some, append_assoc}
-use Rattle.std.specs.Prelude.{zero}
-use Rattle.jl_model.specs.JsonTree.{Tree, scalar, array, object, no_item, Members, no_member, member}
+use Rattle.std.specs.Prelude.{zero, suc}
+use Rattle.jl_model.specs.JsonTree.{Tree, scalar, array, object, no_item, Members, no_member, member, Trees, item}
 use Rattle.jl_model.specs.declared.scalars.Scalar.{Scalar}
 use Rattle.jl_defs.specs.Texts.{Text}
 use Rattle.jl_defs.specs.Context.{Context, initial}
 use Rattle.jl_defs.specs.Settings.{Settings}
-use Rattle.jl_defs.specs.Keys.{Key, kind, id, value, language, direction, index, key_of, is_leading, is_kind, is_value}
+use Rattle.jl_defs.specs.Keys.{Key, kind, value, key_of, is_leading, is_kind, is_value}
 use Rattle.jl_defs.specs.Rest.{is_scalar}
-use Rattle.jl_defs.specs.ObjectContexts.{Inside, look_at_key}
+use Rattle.jl_defs.specs.ObjectContexts.{Inside, look_at_key, last_string}
 use Rattle.jl_prelude.specs.Classes.{class_of}
 use Rattle.jl_prelude.specs.declared.classes.Class.{Class}
 use Rattle.jl_laws.specs.Spots.{Spot, stand_of}
@@ -16,20 +16,20 @@ use Rattle.jl_walk.specs.Phases.{Phase, at_start, in_run, run_until, past, is_re
 use Rattle.jl_walk.specs.Frames.{Frame}
 use Rattle.jl_walk.specs.Steps.{then_goes}
 use Rattle.jl_walk.specs.Keys.{take_key}
-use Rattle.jl_walk.specs.Fits.{BeginsValue}
+use Rattle.jl_walk.specs.Fits.{BeginsValue, Fits}
 use Rattle.jl_walk.specs.Events as tree
 use Rattle.jl_walk.specs.Running as walk
 use Rattle.jl_walk.specs.Running.{if_decided, second_of, run_key, ending_key, may_type, contexts_of, takes, value_step, leads_with}
 use Rattle.jl_walk.specs.States as states
-use Rattle.jl_walk.specs.States.{Second, State, leading_key, running, running_key, in_items, in_members, Go, go, then_go, settle, held_with}
+use Rattle.jl_walk.specs.States.{Second, State, leading_key, running, running_key, in_items, in_members, Go, go, then_go, settle, held_with, at, leading, context_key, in_member, add_item}
 use Rattle.jl_walk.proofs.Goes.{before-none}
 use Rattle.jl_frames.specs.declared.states.StackState.{StackState}
-use Rattle.jl_engine.specs.Leads.{Admits, holds, shows, opens_whole, array_at}
+use Rattle.jl_engine.specs.Leads.{Admits, holds, shows, opens_whole, array_at, is_json}
 use Rattle.jl_engine.specs.Reading.{Read, still, by_admits, step}
 use Rattle.jl_engine.specs.Reading as reading
 use Rattle.jl_engine.specs.TreeEvents.{walked}
 use Rattle.jl_engine.specs.KeepsFrames.{plain_inside}
-use Rattle.jl_engine.specs.Keeping.{Shows, Held, lead_by, reader_by, KeepsLead, KeepsRun, PartIs, Between, between, in_types, in_run_value, Agrees}
+use Rattle.jl_engine.specs.Keeping.{Shows, Held, lead_by, reader_by, KeepsLead, KeepsRun, PartIs, Between, between, in_types, in_run_value, Agrees, json_text, Told, InTypes, InsideAt, DeepInTypes, InRun, Keeps, deep_in_types}
 use Rattle.jl_engine.specs.declared.events.Event.{Event}
 use Rattle.jl_engine.specs.declared.events.Event.TheVariants as events
 use Rattle.jl_engine.specs.declared.leads.Lead.{Lead}
@@ -38,12 +38,200 @@ use Rattle.jl_engine.specs.declared.leads.LeadPart.TheVariants as parts
 use Rattle.jl_engine.specs.declared.leads.LeadSpot.TheVariants as spots
 use Rattle.jl_engine.specs.declared.readers.Reader.{Reader}
 use Rattle.jl_engine.proofs.KeepsLeadSpots.{spot-plain}
-use Rattle.jl_engine.proofs.KeepsLeadWhole.{types-begin}
 use Rattle.jl_engine.proofs.KeepsLeadTypes.{key-last, input-shown}
-use Rattle.jl_engine.proofs.KeepsLeadShown.{shows-scalar, typed-scalar, shows-by, part_after, with_whole, opens-by, IsWhole, shows-whole, kind-whole, kind-other}
-use Rattle.jl_engine.proofs.KeepsLeadHeld.{held-more, one-scalar, OpensAs, one-whole, keys-more, lead-more, lead-stays, lead-ends, length-stays, length-ends, scalar-leads, whole-ends}
+use Rattle.jl_engine.proofs.KeepsLeadShown.{shows-scalar, typed-scalar, shows-by, part_after, with_whole, opens-by, IsWhole, shows-whole, kind-whole, kind-other, scalar-json, with_types, shows-types, typed-types}
+use Rattle.jl_engine.proofs.KeepsLeadHeld.{held-more, one-scalar, OpensAs, one-whole, keys-more, lead-more, lead-stays, lead-ends, length-stays, length-ends, scalar-leads, whole-ends, told-more, last-item, one-types, told-whole, whole-string, kind-leads, types-lead}
 use Rattle.jl_engine.proofs.KeepsLeadTells.{leads-run}
 use Rattle.jl_engine.proofs.KeepsLeadSteps.{plain_lead, decided_input, lead-decided, types-so}
+use Rattle.jl_engine.proofs.KeepsLeadAgrees.{agrees-go, in-lead, in-run}
+use Rattle.jl_engine.proofs.KeepsLeadInside.{InsideGoes, inside-goes}
+
+pub inside-map : (P Q : State → Type 0) (d : ℕ) (z : State) → ((y : State) → P y → Q y) → InsideAt P d z → InsideAt Q d z
+inside-map P Q zero (in_items b xs back) f h = λ ys. f (back (array b ys)) (h ys)
+inside-map P Q zero (in_members b ms back) f h = λ ns. f (back (object b ns)) (h ns)
+inside-map P Q zero (in_member b ms a n back) f h = λ ns. f (back (object b ns)) (h ns)
+inside-map P Q (suc d) (in_items b xs back) f h = λ t. inside-map P Q d (back t) f (h t)
+inside-map P Q (suc d) (in_members b ms back) f h = λ t. inside-map P Q d (back t) f (h t)
+inside-map P Q (suc d) (in_member b ms a n back) f h = λ t. inside-map P Q d (back t) f (h t)
+inside-map P Q x y f h = absurd h
+
+-- ---- in a value of the second run: only the event that closes it is held
+
+run-goes : (s : Settings) (d : ℕ) (e : Event) (z : State) (st : StackState) (place : ℕ) (es : List Event) (part : LeadPart) (m : Lead) →
+    InsideGoes (λ y. Between s y (reader_by st (lead_by place (es ++ events.Closes ∷ []) part spots.Between m))) d (walked e) (walk.step s (walked e) z) →
+    Agrees s (walk.step s (walked e) z) (step (initial s.base) e (reader_by st (lead_by place es part (spots.Inside d) m)))
+unfolding step
+run-goes s d (events.OpensObject b) z st place es part m g =
+    agrees-go s (walk.step s (walked (events.OpensObject b)) z) _ g.0 (reader_by st (lead_by place es part (spots.Inside (suc d)) m)) g.1.0 refl
+    (in_run_value (suc d) (record { stack = st; place = place; held = es; part = part; shown = m; reader = refl; closing = g.1.1 }))
+run-goes s d (events.OpensArray b) z st place es part m g =
+    agrees-go s (walk.step s (walked (events.OpensArray b)) z) _ g.0 (reader_by st (lead_by place es part (spots.Inside (suc d)) m)) g.1.0 refl
+    (in_run_value (suc d) (record { stack = st; place = place; held = es; part = part; shown = m; reader = refl; closing = g.1.1 }))
+run-goes s zero events.Closes z st place es part m g =
+    agrees-go s (walk.step s (walked events.Closes) z) _ g.0 (reader_by st (lead_by place (es ++ events.Closes ∷ []) part spots.Between m)) g.1.0 refl (between g.1.1)
+run-goes s (suc d) events.Closes z st place es part m g =
+    agrees-go s (walk.step s (walked events.Closes) z) _ g.0 (reader_by st (lead_by place es part (spots.Inside d) m)) g.1.0 refl
+    (in_run_value d (record { stack = st; place = place; held = es; part = part; shown = m; reader = refl; closing = g.1.1 }))
+run-goes s d (events.Key a n) z st place es part m g =
+    agrees-go s (walk.step s (walked (events.Key a n)) z) _ g.0 (reader_by st (lead_by place es part (spots.Inside d) m)) g.1.0 refl
+    (in_run_value d (record { stack = st; place = place; held = es; part = part; shown = m; reader = refl; closing = g.1.1 }))
+run-goes s d (events.Value b v) z st place es part m g =
+    agrees-go s (walk.step s (walked (events.Value b v)) z) _ g.0 (reader_by st (lead_by place es part (spots.Inside d) m)) g.1.0 refl
+    (in_run_value d (record { stack = st; place = place; held = es; part = part; shown = m; reader = refl; closing = g.1.1 }))
+
+pub in-run-steps : (s : Settings) (d : ℕ) (e : Event) (z : State) (r : Reader) → InRun s d z r → Fits z (walked e) → Agrees s (walk.step s (walked e) z) (step (initial s.base) e r)
+in-run-steps s d e z r h f =
+    subst (λ x. Agrees s (walk.step s (walked e) z) (step (initial s.base) e x)) (sym h.reader)
+    (run-goes s d e z h.stack h.place h.held h.part h.shown
+    (inside-goes s (λ y. Between s y (reader_by h.stack (lead_by h.place (h.held ++ events.Closes ∷ []) h.part spots.Between h.shown))) d (walked e) z h.closing f))
+
+-- ---- in a container among types: each event is held
+
+abbrev DeepClosing : Settings → StackState → ℕ → List Event → Lead → State → Type 0
+DeepClosing s st place es m y = (more : List Event) → InTypes s y (reader_by st (lead_by place (es ++ more) parts.Prelude (spots.InTypes zero false) m))
+
+deep-more : (s : Settings) (st : StackState) (place : ℕ) (es : List Event) (m : Lead) (e : Event) (d : ℕ) (z : State) → InsideAt (DeepClosing s st place es m) d z → InsideAt (DeepClosing s st place (es ++ e ∷ []) m) d z
+deep-more s st place es m e d z h =
+    inside-map (DeepClosing s st place es m) (DeepClosing s st place (es ++ e ∷ []) m) d z
+    (λ y g more. subst (λ x. InTypes s y (reader_by st (lead_by place x parts.Prelude (spots.InTypes zero false) m))) (sym (append_assoc es (e ∷ []) more)) (g (e ∷ more))) h
+
+deep-so : (s : Settings) (st : StackState) (place : ℕ) (es : List Event) (m : Lead) (e : Event) (d : ℕ) (z : State) → InsideAt (DeepClosing s st place es m) d z →
+    Keeps s z (reader_by st (lead_by place (es ++ e ∷ []) parts.Prelude (spots.InTypes (suc d) false) m))
+deep-so s st place es m e d z h =
+    deep_in_types d (record { stack = st; place = place; held = es ++ e ∷ []; shown = m; reader = refl; closing = deep-more s st place es m e d z h })
+
+deep-goes : (s : Settings) (d : ℕ) (e : Event) (z : State) (st : StackState) (place : ℕ) (es : List Event) (m : Lead) →
+    InsideGoes (DeepClosing s st place es m) d (walked e) (walk.step s (walked e) z) →
+    Agrees s (walk.step s (walked e) z) (step (initial s.base) e (reader_by st (lead_by place es parts.Prelude (spots.InTypes (suc d) false) m)))
+unfolding step
+deep-goes s d (events.OpensObject b) z st place es m g =
+    agrees-go s (walk.step s (walked (events.OpensObject b)) z) _ g.0 (reader_by st (lead_by place (es ++ events.OpensObject b ∷ []) parts.Prelude (spots.InTypes (suc (suc d)) false) m)) g.1.0 refl
+    (deep-so s st place es m (events.OpensObject b) (suc d) g.0 g.1.1)
+deep-goes s d (events.OpensArray b) z st place es m g =
+    agrees-go s (walk.step s (walked (events.OpensArray b)) z) _ g.0 (reader_by st (lead_by place (es ++ events.OpensArray b ∷ []) parts.Prelude (spots.InTypes (suc (suc d)) false) m)) g.1.0 refl
+    (deep-so s st place es m (events.OpensArray b) (suc d) g.0 g.1.1)
+deep-goes s zero events.Closes z st place es m g =
+    agrees-go s (walk.step s (walked events.Closes) z) _ g.0 (reader_by st (lead_by place (es ++ events.Closes ∷ []) parts.Prelude (spots.InTypes zero false) m)) g.1.0 refl (in_types (g.1.1 (events.Closes ∷ [])))
+deep-goes s (suc d) events.Closes z st place es m g =
+    agrees-go s (walk.step s (walked events.Closes) z) _ g.0 (reader_by st (lead_by place (es ++ events.Closes ∷ []) parts.Prelude (spots.InTypes (suc d) false) m)) g.1.0 refl
+    (deep-so s st place es m events.Closes d g.0 g.1.1)
+deep-goes s d (events.Key a n) z st place es m g =
+    agrees-go s (walk.step s (walked (events.Key a n)) z) _ g.0 (reader_by st (lead_by place (es ++ events.Key a n ∷ []) parts.Prelude (spots.InTypes (suc d) false) m)) g.1.0 refl
+    (deep-so s st place es m (events.Key a n) d g.0 g.1.1)
+deep-goes s d (events.Value b v) z st place es m g =
+    agrees-go s (walk.step s (walked (events.Value b v)) z) _ g.0 (reader_by st (lead_by place (es ++ events.Value b v ∷ []) parts.Prelude (spots.InTypes (suc d) false) m)) g.1.0 refl
+    (deep-so s st place es m (events.Value b v) d g.0 g.1.1)
+
+pub deep-steps : (s : Settings) (d : ℕ) (e : Event) (z : State) (r : Reader) → DeepInTypes s d z r → Fits z (walked e) → Agrees s (walk.step s (walked e) z) (step (initial s.base) e r)
+deep-steps s d e z r h f =
+    subst (λ x. Agrees s (walk.step s (walked e) z) (step (initial s.base) e x)) (sym h.reader)
+    (deep-goes s d e z h.stack h.place h.held h.shown (inside-goes s (DeepClosing s h.stack h.place h.held h.shown) d (walked e) z h.closing f))
+
+-- ---- in the array of types
+
+-- what stands for it, by its parts
+types-stand : (s : Settings) (l : states.Lead) (a : ℕ) (n : Text) (b : ℕ) (xs : Trees) (st : StackState) (es own : List Event) (m : Lead) (held : List Event) (last : Bool) →
+    KeepsLead s l es m st → is_kind (key_of (initial s.base) n) ≡ true → Told xs own → held ≡ es ++ events.Key a n ∷ (events.OpensArray b ∷ own) → last ≡ json_text (last_string xs) →
+    InTypes s (in_items b xs (leads_with l a n)) (reader_by st (lead_by l.place held parts.Prelude (spots.InTypes zero last) m))
+types-stand s l a n b xs st es own m held last h k t e j = record {
+  lead = l;
+  key_at = a;
+  key = n;
+  place = b;
+  items = xs;
+  stack = st;
+  held = es;
+  own = own;
+  shown = m;
+  state = refl;
+  reader =
+      ap (λ x. reader_by st (lead_by l.place x parts.Prelude (spots.InTypes zero last) m)) e
+      ∙ ap (λ x. reader_by st (lead_by l.place (es ++ events.Key a n ∷ (events.OpensArray b ∷ own)) parts.Prelude (spots.InTypes zero x) m)) j;
+  keeps = h;
+  kind = k;
+  told = t;
+}
+
+pub types-begin : (s : Settings) (l : states.Lead) (a : ℕ) (n : Text) (b : ℕ) (st : StackState) (es : List Event) (m : Lead) → KeepsLead s l es m st → is_kind (key_of (initial s.base) n) ≡ true →
+    InTypes s (in_items b no_item (leads_with l a n)) (reader_by st (lead_by l.place ((es ++ events.Key a n ∷ []) ++ events.OpensArray b ∷ []) parts.Prelude (spots.InTypes zero false) m))
+types-begin s l a n b st es m h k =
+    types-stand s l a n b no_item st es [] m ((es ++ events.Key a n ∷ []) ++ events.OpensArray b ∷ []) false h k refl (append_assoc es (events.Key a n ∷ []) (events.OpensArray b ∷ [])) refl
+
+-- one more item, whatever follows a container
+types-more : (s : Settings) (l : states.Lead) (a : ℕ) (n : Text) (b : ℕ) (xs : Trees) (st : StackState) (es own : List Event) (m : Lead) (t : Tree) (es2 : List Event) (held : List Event) (last : Bool) →
+    KeepsLead s l es m st → is_kind (key_of (initial s.base) n) ≡ true → Told xs own → Told (item t no_item) es2 → held ≡ (es ++ events.Key a n ∷ (events.OpensArray b ∷ own)) ++ es2 →
+    last ≡ json_text (last_string (item t no_item)) →
+    InTypes s (in_items b (add_item xs t) (leads_with l a n)) (reader_by st (lead_by l.place held parts.Prelude (spots.InTypes zero last) m))
+types-more s l a n b xs st es own m t es2 held last h k told one e j =
+    types-stand s l a n b (add_item xs t) st es (own ++ es2) m held last h k (told-more xs own t es2 told one)
+    (e ∙ append_assoc es (events.Key a n ∷ (events.OpensArray b ∷ own)) es2) (j ∙ ap json_text (sym (last-item xs t)))
+
+-- after a container
+types-whole : (s : Settings) (l : states.Lead) (a : ℕ) (n : Text) (b : ℕ) (xs : Trees) (st : StackState) (es own : List Event) (m : Lead) (t : Tree) (e : Event) (more : List Event) →
+    KeepsLead s l es m st → is_kind (key_of (initial s.base) n) ≡ true → Told xs own → OpensAs t e →
+    InTypes s (in_items b (add_item xs t) (leads_with l a n))
+    (reader_by st (lead_by l.place (((es ++ events.Key a n ∷ (events.OpensArray b ∷ own)) ++ e ∷ []) ++ more) parts.Prelude (spots.InTypes zero false) m))
+types-whole s l a n b xs st es own m t e more h k told o =
+    types-more s l a n b xs st es own m t (e ∷ more) (((es ++ events.Key a n ∷ (events.OpensArray b ∷ own)) ++ e ∷ []) ++ more) false h k told (told-whole t e more o)
+    (append_assoc (es ++ events.Key a n ∷ (events.OpensArray b ∷ own)) (e ∷ []) more) (ap json_text (sym (whole-string t e o)))
+
+-- it closes
+types-close : (s : Settings) (l : states.Lead) (a : ℕ) (n : Text) (b : ℕ) (xs : Trees) (st : StackState) (es own : List Event) (m : Lead) →
+    KeepsLead s l es m st → is_kind (key_of (initial s.base) n) ≡ true → Told xs own →
+    Between s (leads_with l a n (array b xs))
+    (reader_by st (lead_by l.place ((es ++ events.Key a n ∷ (events.OpensArray b ∷ own)) ++ events.Closes ∷ []) parts.Prelude spots.Between (with_types (json_text (last_string xs)) m)))
+types-close s l a n b xs st es own m h k told =
+    let c = initial s.base in
+    let one = events.Key a n ∷ (events.OpensArray b ∷ (own ++ events.Closes ∷ [])) in
+    in-lead s _ (es ++ one) _ (with_types (json_text (last_string xs)) m) st (append_assoc es (events.Key a n ∷ (events.OpensArray b ∷ own)) (events.Closes ∷ [])) (record {
+      stands = h.stands;
+      first = h.first;
+      held = held-more c l.held es a n (array b xs) one h.held (one-types c a n b xs own k told);
+      keys = keys-more c l.held a n (array b xs) h.keys (kind-leads (key_of c n) k);
+      leads = lead-more c l.held a n (array b xs) h.leads (types-lead c n b xs k);
+      shows = shows-types c l.held a n b xs m k h.typed h.shows;
+      typed = typed-types c l.held a n (array b xs) k;
+    })
+
+types-goes : (s : Settings) (e : Event) (l : states.Lead) (a : ℕ) (n : Text) (b : ℕ) (xs : Trees) (st : StackState) (es own : List Event) (m : Lead) →
+    KeepsLead s l es m st → is_kind (key_of (initial s.base) n) ≡ true → Told xs own → Fits (in_items b xs (leads_with l a n)) (walked e) →
+    Agrees s (walk.step s (walked e) (in_items b xs (leads_with l a n)))
+    (step (initial s.base) e (reader_by st (lead_by l.place (es ++ events.Key a n ∷ (events.OpensArray b ∷ own)) parts.Prelude (spots.InTypes zero (json_text (last_string xs))) m)))
+unfolding step walk.step
+types-goes s (events.OpensObject d) l a n b xs st es own m h k told f =
+    let all = es ++ events.Key a n ∷ (events.OpensArray b ∷ own) in
+    agrees-go s _ _ _ (reader_by st (lead_by l.place (all ++ events.OpensObject d ∷ []) parts.Prelude (spots.InTypes (suc zero) false) m)) refl refl (deep_in_types zero (record {
+      stack = st;
+      place = l.place;
+      held = all ++ events.OpensObject d ∷ [];
+      shown = m;
+      reader = refl;
+      closing = λ ns more. types-whole s l a n b xs st es own m (object d ns) (events.OpensObject d) more h k told refl;
+    }))
+types-goes s (events.OpensArray d) l a n b xs st es own m h k told f =
+    let all = es ++ events.Key a n ∷ (events.OpensArray b ∷ own) in
+    agrees-go s _ _ _ (reader_by st (lead_by l.place (all ++ events.OpensArray d ∷ []) parts.Prelude (spots.InTypes (suc zero) false) m)) refl refl (deep_in_types zero (record {
+      stack = st;
+      place = l.place;
+      held = all ++ events.OpensArray d ∷ [];
+      shown = m;
+      reader = refl;
+      closing = λ ys more. types-whole s l a n b xs st es own m (array d ys) (events.OpensArray d) more h k told refl;
+    }))
+types-goes s events.Closes l a n b xs st es own m h k told f =
+    agrees-go s _ _ _ (reader_by st (lead_by l.place ((es ++ events.Key a n ∷ (events.OpensArray b ∷ own)) ++ events.Closes ∷ []) parts.Prelude spots.Between (with_types (json_text (last_string xs)) m))) refl refl
+    (between (types-close s l a n b xs st es own m h k told))
+types-goes s (events.Key d x) l a n b xs st es own m h k told f = absurd f
+types-goes s (events.Value d v) l a n b xs st es own m h k told f =
+    let all = es ++ events.Key a n ∷ (events.OpensArray b ∷ own) in
+    agrees-go s _ _ _ (reader_by st (lead_by l.place (all ++ events.Value d v ∷ []) parts.Prelude (spots.InTypes zero (is_json v)) m)) refl refl
+    (in_types (types-more s l a n b xs st es own m (scalar d v) (events.Value d v ∷ []) (all ++ events.Value d v ∷ []) (is_json v) h k told ([], (refl, refl)) refl (scalar-json d v)))
+
+pub in-types-steps : (s : Settings) (e : Event) (z : State) (r : Reader) → InTypes s z r → Fits z (walked e) → Agrees s (walk.step s (walked e) z) (step (initial s.base) e r)
+in-types-steps s e z r h =
+    subst (λ x. Fits x (walked e) → Agrees s (walk.step s (walked e) x) (step (initial s.base) e r)) (sym h.state)
+    (λ f. subst (λ x. Agrees s (walk.step s (walked e) (in_items h.place h.items (leads_with h.lead h.key_at h.key))) (step (initial s.base) e x)) (sym h.reader)
+    (types-goes s e h.lead h.key_at h.key h.place h.items h.stack h.held h.own h.shown h.keeps h.kind h.told f))
 
 -- ---- a scalar
 
@@ -69,27 +257,15 @@ lead-scalar : (s : Settings) (p : Spot) (place : ℕ) (held : Members) (k : List
 lead-scalar s p place held k es m st a n b v h e =
     let c = initial s.base in
     let own = events.Key a n ∷ (events.Value b v ∷ []) in
-    let m2 = shows c (class_of (key_of c n)) v m in (
-      st,
-      (
-        es ++ own,
-        (
-          m2,
-          (
-            ap (λ x. reader_by st (lead_by place x parts.Prelude spots.Between m2)) (two es (events.Key a n) (events.Value b v)),
-            record {
-              stands = h.stands;
-              first = h.first;
-              held = held-more c held es a n (scalar b v) own h.held (one-scalar c a n b v);
-              keys = keys-more c held a n (scalar b v) h.keys e;
-              leads = lead-more c held a n (scalar b v) h.leads (scalar-leads c n b v e);
-              shows = shows-scalar c held a n b v m e (λ _. h.typed) h.shows;
-              typed = typed-scalar c held a n b v m h.typed;
-            },
-          ),
-        ),
-      ),
-    )
+    in-lead s _ (es ++ own) _ (shows c (class_of (key_of c n)) v m) st (two es (events.Key a n) (events.Value b v)) (record {
+      stands = h.stands;
+      first = h.first;
+      held = held-more c held es a n (scalar b v) own h.held (one-scalar c a n b v);
+      keys = keys-more c held a n (scalar b v) h.keys e;
+      leads = lead-more c held a n (scalar b v) h.leads (scalar-leads c n b v e);
+      shows = shows-scalar c held a n b v m e (λ _. h.typed) h.shows;
+      typed = typed-scalar c held a n b v m h.typed;
+    })
 
 -- ---- an array or an object that begins the second run
 
@@ -115,12 +291,7 @@ lead-begins s p place held k a n e pc h =
 -- the part of the run after it
 part-of : (q : Key) → PartIs (run_until (is_value q && true)) (part_after (class_of q))
 part-of value = refl
-part-of id = refl
-part-of kind = refl
-part-of language = refl
-part-of direction = refl
-part-of index = refl
-part-of q = refl
+part-of x = refl
 
 part-so : (q : Key) (v : Tree) → IsWhole q v → PartIs (run_until (is_value q && not (is_scalar v))) (part_after (class_of q))
 part-so q (scalar b v) w = absurd w
@@ -134,52 +305,29 @@ lead-whole : (s : Settings) (p : Spot) (place : ℕ) (held : Members) (k : List 
 lead-whole s p place held k es m st a n v e h ld w o =
     let c = initial s.base in
     let q = key_of c n in
-    let part = part_after (class_of q) in
     let own = events.Key a n ∷ (e ∷ (events.Closes ∷ [])) in
-    let m2 = with_whole (class_of q) m in
-    let more = look_at_key n ∷ [] in (
-      st,
-      (
-        es ++ own,
-        (
-          m2,
-          (
-            part,
-            (
-              ap (λ x. reader_by st (lead_by place x part spots.Between m2)) (three es (events.Key a n) e events.Closes),
-              (
-                record {
-                  stands = h.stands;
-                  plain = refl;
-                  start = ap at_start (length-ends c held a n v h.leads (whole-ends c n v w));
-                  held = held-more c held es a n v own h.held (one-whole c a n v e (events.Closes ∷ []) w o);
-                  keys = keys-more c held a n v h.keys ld;
-                  stops = lead-ends c held a n v (whole-ends c n v w);
-                  shows = shows-whole c held a n v m ld w h.shows;
-                  input = input-shown s.base (stand_of p.role.around) held more (key-last c n) ∙ kind-whole c held a n v w;
-                },
-                part-so q v w,
-              ),
-            ),
-          ),
-        ),
-      ),
-    )
+    let more = look_at_key n ∷ [] in
+    in-run s _ (es ++ own) _ (with_whole (class_of q) m) st (part_after (class_of q)) (three es (events.Key a n) e events.Closes) (record {
+      stands = h.stands;
+      plain = refl;
+      start = ap at_start (length-ends c held a n v h.leads (whole-ends c n v w));
+      held = held-more c held es a n v own h.held (one-whole c a n v e (events.Closes ∷ []) w o);
+      keys = keys-more c held a n v h.keys ld;
+      stops = lead-ends c held a n v (whole-ends c n v w);
+      shows = shows-whole c held a n v m ld w h.shows;
+      input = input-shown s.base (stand_of p.role.around) held more (key-last c n) ∙ kind-whole c held a n v w;
+    }) (part-so q v w)
 
--- what the reader does
+-- what the reader does, by whether it is an array of types
+abbrev kept : Key → ℕ → List Event → LeadPart → Lead → Bool → Admits
+kept q place es part m true = holds (lead_by place es part (spots.InTypes zero false) m)
+kept q place es part m false = opens_whole (class_of q) (lead_by place es part (spots.After (class_of q)) m)
+
 array-by : (q : Key) (place : ℕ) (es : List Event) (part : LeadPart) (m : Lead) →
     array_at (spots.After (class_of q)) (lead_by place es part (spots.After (class_of q)) m)
-    ≡ elim (is_kind q) [
-      | true ↦ holds (lead_by place es part (spots.InTypes zero false) m)
-      | false ↦ opens_whole (class_of q) (lead_by place es part (spots.After (class_of q)) m)
-    ]
+    ≡ kept q place es part m (is_kind q)
 array-by kind place es part m = refl
-array-by id place es part m = refl
-array-by value place es part m = refl
-array-by language place es part m = refl
-array-by direction place es part m = refl
-array-by index place es part m = refl
-array-by q place es part m = refl
+array-by x place es part m = refl
 
 -- a value of the second run is held, but not what stands in it
 whole-held : (c : Context) (e : Event) (k : Class) (place : ℕ) (es : List Event) (part : LeadPart) (m : Lead) (st : StackState) (x : Admits) → x ≡ opens_whole k (lead_by place es part (spots.After k) m) → (r : Reader) →
@@ -203,14 +351,8 @@ array-held : (c : Context) (q : Key) (place : ℕ) (es : List Event) (part : Lea
 unfolding step
 array-held c q place es part m st b e =
     whole-held c (events.OpensArray b) (class_of q) place es part m st (array_at (spots.After (class_of q)) (lead_by place es part (spots.After (class_of q)) m))
-    (array-by q place es part m ∙ ap (λ x. kept x) e)
+    (array-by q place es part m ∙ ap (λ x. kept q place es part m x) e)
     (reader_by st (lead_by place es part (spots.After (class_of q)) m)) refl
-  where
-    kept : Bool → Admits
-    kept x = elim x [
-      | true ↦ holds (lead_by place es part (spots.InTypes zero false) m)
-      | false ↦ opens_whole (class_of q) (lead_by place es part (spots.After (class_of q)) m)
-    ]
 
 types-held : (c : Context) (q : Key) (place : ℕ) (es : List Event) (part : LeadPart) (m : Lead) (st : StackState) (b : ℕ) → is_kind q ≡ true →
     step c (events.OpensArray b) (reader_by st (lead_by place es part (spots.After (class_of q)) m))
@@ -218,17 +360,14 @@ types-held : (c : Context) (q : Key) (place : ℕ) (es : List Event) (part : Lea
 unfolding step
 types-held c q place es part m st b e =
     ap (λ x. by_admits x c (events.OpensArray b) (lead_by place es part (spots.After (class_of q)) m) (reader_by st (lead_by place es part (spots.After (class_of q)) m)))
-    (array-by q place es part m ∙ ap (λ x. kept x) e)
-  where
-    kept : Bool → Admits
-    kept x = elim x [
-      | true ↦ holds (lead_by place es part (spots.InTypes zero false) m)
-      | false ↦ opens_whole (class_of q) (lead_by place es part (spots.After (class_of q)) m)
-    ]
+    (array-by q place es part m ∙ ap (λ x. kept q place es part m x) e)
 
--- both take what they take
-agrees-by : (s : Settings) (g h : Go) (t u : Read) → g ≡ h → t ≡ u → Agrees s h u → Agrees s g t
-agrees-by s g h t u e f x = subst (λ y. Agrees s y t) (sym e) (subst (λ y. Agrees s h y) (sym f) x)
+-- it is held whole
+whole-opens : (s : Settings) (q : Key) (place : ℕ) (es : List Event) (part : LeadPart) (m : Lead) (st : StackState) (e : Event) (z : State) →
+    InsideAt (λ y. Between s y (reader_by st (lead_by place ((es ++ e ∷ []) ++ events.Closes ∷ []) (part_after (class_of q)) spots.Between (with_whole (class_of q) m)))) zero z →
+    Keeps s z (reader_by st (lead_by place (es ++ e ∷ []) (part_after (class_of q)) (spots.Inside zero) (with_whole (class_of q) m)))
+whole-opens s q place es part m st e z f =
+    in_run_value zero (record { stack = st; place = place; held = es ++ e ∷ []; part = part_after (class_of q); shown = with_whole (class_of q) m; reader = refl; closing = f })
 
 lead-object : (s : Settings) (p : Spot) (place : ℕ) (held : Members) (k : List Frame) (es : List Event) (m : Lead) (st : StackState) (a : ℕ) (n : Text) (b : ℕ) → p.context ≡ initial s.base →
     KeepsLead s (plain_lead p place held k) es m st → is_leading (key_of (initial s.base) n) ≡ true →
@@ -237,24 +376,9 @@ lead-object : (s : Settings) (p : Spot) (place : ℕ) (held : Members) (k : List
 lead-object s p place held k es m st a n b pc h ld =
     let c = initial s.base in
     let q = key_of c n in
-    let es2 = (es ++ events.Key a n ∷ []) ++ events.OpensObject b ∷ [] in
-    let r = reader_by st (lead_by place es2 (part_after (class_of q)) (spots.Inside zero) (with_whole (class_of q) m)) in
-    agrees-by s _ (takes (tree.opens_object b) (first_run s p place held k a n)) _ (still r)
-    (lead-begins s p place held k a n (tree.opens_object b) pc ld) (object-held c q place (es ++ events.Key a n ∷ []) parts.Prelude m st b) (
-      r,
-      (
-        refl,
-        in_run_value zero (record {
-          stack = st;
-          place = place;
-          held = es2;
-          part = part_after (class_of q);
-          shown = with_whole (class_of q) m;
-          reader = refl;
-          closing = λ ns. lead-whole s p place held k es m st a n (object b ns) (events.OpensObject b) h ld tt refl;
-        }),
-      ),
-    )
+    let es1 = es ++ events.Key a n ∷ [] in
+    agrees-go s _ _ (in_members b no_member (first_run s p place held k a n)) _ (lead-begins s p place held k a n (tree.opens_object b) pc ld) (object-held c q place es1 parts.Prelude m st b)
+    (whole-opens s q place es1 parts.Prelude m st (events.OpensObject b) _ (λ ns. lead-whole s p place held k es m st a n (object b ns) (events.OpensObject b) h ld tt refl))
 
 lead-array : (s : Settings) (p : Spot) (place : ℕ) (held : Members) (k : List Frame) (es : List Event) (m : Lead) (st : StackState) (a : ℕ) (n : Text) (b : ℕ) → p.context ≡ initial s.base →
     KeepsLead s (plain_lead p place held k) es m st → is_leading (key_of (initial s.base) n) ≡ true →
@@ -281,36 +405,14 @@ lead-array s p place held k es m st a n b pc h ld =
       | false ↦ then_go (ending_key s l a n) (value_step s (tree.opens_array b))
     ]
 
-    es2 : List Event
-    es2 = (es ++ events.Key a n ∷ []) ++ events.OpensArray b ∷ []
-
-    r : Reader
-    r = reader_by st (lead_by place es2 (part_after (class_of q)) (spots.Inside zero) (with_whole (class_of q) m))
-
-    r1 : Reader
-    r1 = reader_by st (lead_by place es2 parts.Prelude (spots.InTypes zero false) m)
+    es1 : List Event
+    es1 = es ++ events.Key a n ∷ []
 
     by : (x : Bool) → is_kind q ≡ x → Agrees s (goes x) t
-    by true e =
-        agrees-by s (goes true) (go (in_items b no_item (leads_with l a n))) t (still r1) refl (types-held c q place (es ++ events.Key a n ∷ []) parts.Prelude m st b e)
-        (r1, (refl, in_types (types-begin s l a n b st es m h e)))
+    by true e = agrees-go s (goes true) t (in_items b no_item (leads_with l a n)) _ refl (types-held c q place es1 parts.Prelude m st b e) (in_types (types-begin s l a n b st es m h e))
     by false e =
-        agrees-by s (goes false) (takes (tree.opens_array b) (first_run s p place held k a n)) t (still r)
-        (lead-begins s p place held k a n (tree.opens_array b) pc ld) (array-held c q place (es ++ events.Key a n ∷ []) parts.Prelude m st b e) (
-          r,
-          (
-            refl,
-            in_run_value zero (record {
-              stack = st;
-              place = place;
-              held = es2;
-              part = part_after (class_of q);
-              shown = with_whole (class_of q) m;
-              reader = refl;
-              closing = λ ys. lead-whole s p place held k es m st a n (array b ys) (events.OpensArray b) h ld e refl;
-            }),
-          ),
-        )
+        agrees-go s (goes false) t (in_items b no_item (first_run s p place held k a n)) _ (lead-begins s p place held k a n (tree.opens_array b) pc ld) (array-held c q place es1 parts.Prelude m st b e)
+        (whole-opens s q place es1 parts.Prelude m st (events.OpensArray b) _ (λ ys. lead-whole s p place held k es m st a n (array b ys) (events.OpensArray b) h ld e refl))
 
 pub lead-values : (s : Settings) (e : Event) (p : Spot) (place : ℕ) (held : Members) (k : List Frame) (es : List Event) (m : Lead) (st : StackState) (a : ℕ) (n : Text) →
     KeepsLead s (plain_lead p place held k) es m st → is_leading (key_of (initial s.base) n) ≡ true → BeginsValue (walked e) →
@@ -368,26 +470,11 @@ run-scalar : (s : Settings) (q : Second) (es : List Event) (m : Lead) (st : Stac
 run-scalar s q es m st a n b v h ph ld nk =
     let c = initial s.base in
     let own = events.Key a n ∷ (events.Value b v ∷ []) in
-    let m2 = shows c (class_of (key_of c n)) v m in (
-      st,
-      (
-        es ++ own,
-        (
-          m2,
-          (
-            parts.Run,
-            (
-              ap (λ x. reader_by st (lead_by q.place x parts.Run spots.Between m2)) (two es (events.Key a n) (events.Value b v)),
-              (
-                run-more s q es own m m2 st a n (scalar b v) (past q.phase q.inside n (scalar b v)) h ld nk (one-scalar c a n b v)
-                    (shows-scalar c q.held a n b v m ld (λ e. absurd (let z : true ≡ false = sym e ∙ nk in cc)) h.shows),
-                past-part s q n (scalar b v) parts.Run ph (final-so s q es m st h) (scalar-part (is_value (key_of c n))),
-              ),
-            ),
-          ),
-        ),
-      ),
-    )
+    let m2 = shows c (class_of (key_of c n)) v m in
+    in-run s _ (es ++ own) _ m2 st parts.Run (two es (events.Key a n) (events.Value b v))
+    (run-more s q es own m m2 st a n (scalar b v) (past q.phase q.inside n (scalar b v)) h ld nk (one-scalar c a n b v)
+    (shows-scalar c q.held a n b v m ld (λ e. absurd (let z : true ≡ false = sym e ∙ nk in cc)) h.shows))
+    (past-part s q n (scalar b v) parts.Run ph (final-so s q es m st h) (scalar-part (is_value (key_of c n))))
 
 run-whole : (s : Settings) (q : Second) (es : List Event) (m : Lead) (st : StackState) (a : ℕ) (n : Text) (v : Tree) (e : Event) → KeepsRun s q es m st → q.phase ≡ in_run →
     is_leading (key_of (initial s.base) n) ≡ true → is_kind (key_of (initial s.base) n) ≡ false → IsWhole (key_of (initial s.base) n) v → OpensAs v e →
@@ -396,27 +483,10 @@ run-whole : (s : Settings) (q : Second) (es : List Event) (m : Lead) (st : Stack
 run-whole s q es m st a n v e h ph ld nk w o =
     let c = initial s.base in
     let key = key_of c n in
-    let part = part_after (class_of key) in
     let own = events.Key a n ∷ (e ∷ (events.Closes ∷ [])) in
-    let m2 = with_whole (class_of key) m in (
-      st,
-      (
-        es ++ own,
-        (
-          m2,
-          (
-            part,
-            (
-              ap (λ x. reader_by st (lead_by q.place x part spots.Between m2)) (three es (events.Key a n) e events.Closes),
-              (
-                run-more s q es own m m2 st a n v (past q.phase q.inside n v) h ld nk (one-whole c a n v e (events.Closes ∷ []) w o) (shows-whole c q.held a n v m ld w h.shows),
-                past-part s q n v part ph (final-so s q es m st h) (part-so key v w),
-              ),
-            ),
-          ),
-        ),
-      ),
-    )
+    in-run s _ (es ++ own) _ (with_whole (class_of key) m) st (part_after (class_of key)) (three es (events.Key a n) e events.Closes)
+    (run-more s q es own m (with_whole (class_of key) m) st a n v (past q.phase q.inside n v) h ld nk (one-whole c a n v e (events.Closes ∷ []) w o) (shows-whole c q.held a n v m ld w h.shows))
+    (past-part s q n v (part_after (class_of key)) ph (final-so s q es m st h) (part-so key v w))
 
 pub run-values : (s : Settings) (e : Event) (q : Second) (es : List Event) (m : Lead) (st : StackState) (a : ℕ) (n : Text) → KeepsRun s q es m st → q.phase ≡ in_run →
     is_leading (key_of (initial s.base) n) ≡ true → is_kind (key_of (initial s.base) n) ≡ false → BeginsValue (walked e) →
@@ -424,41 +494,15 @@ pub run-values : (s : Settings) (e : Event) (q : Second) (es : List Event) (m : 
     (step (initial s.base) e (reader_by st (lead_by q.place (es ++ events.Key a n ∷ []) parts.Run (spots.After (class_of (key_of (initial s.base) n))) m)))
 unfolding walk.step
 run-values s (events.OpensObject b) q es m st a n h ph ld nk f =
-    let c = initial s.base in
-    let key = key_of c n in
-    let es2 = (es ++ events.Key a n ∷ []) ++ events.OpensObject b ∷ [] in (
-      reader_by st (lead_by q.place es2 (part_after (class_of key)) (spots.Inside zero) (with_whole (class_of key) m)),
-      (
-        object-held c key q.place (es ++ events.Key a n ∷ []) parts.Run m st b,
-        in_run_value zero (record {
-          stack = st;
-          place = q.place;
-          held = es2;
-          part = part_after (class_of key);
-          shown = with_whole (class_of key) m;
-          reader = refl;
-          closing = λ ns. run-whole s q es m st a n (object b ns) (events.OpensObject b) h ph ld nk tt refl;
-        }),
-      ),
-    )
+    let key = key_of (initial s.base) n in
+    let es1 = es ++ events.Key a n ∷ [] in
+    agrees-go s _ _ (in_members b no_member (next_run q a n)) _ refl (object-held (initial s.base) key q.place es1 parts.Run m st b)
+    (whole-opens s key q.place es1 parts.Run m st (events.OpensObject b) _ (λ ns. run-whole s q es m st a n (object b ns) (events.OpensObject b) h ph ld nk tt refl))
 run-values s (events.OpensArray b) q es m st a n h ph ld nk f =
-    let c = initial s.base in
-    let key = key_of c n in
-    let es2 = (es ++ events.Key a n ∷ []) ++ events.OpensArray b ∷ [] in (
-      reader_by st (lead_by q.place es2 (part_after (class_of key)) (spots.Inside zero) (with_whole (class_of key) m)),
-      (
-        array-held c key q.place (es ++ events.Key a n ∷ []) parts.Run m st b nk,
-        in_run_value zero (record {
-          stack = st;
-          place = q.place;
-          held = es2;
-          part = part_after (class_of key);
-          shown = with_whole (class_of key) m;
-          reader = refl;
-          closing = λ ys. run-whole s q es m st a n (array b ys) (events.OpensArray b) h ph ld nk nk refl;
-        }),
-      ),
-    )
+    let key = key_of (initial s.base) n in
+    let es1 = es ++ events.Key a n ∷ [] in
+    agrees-go s _ _ (in_items b no_item (next_run q a n)) _ refl (array-held (initial s.base) key q.place es1 parts.Run m st b nk)
+    (whole-opens s key q.place es1 parts.Run m st (events.OpensArray b) _ (λ ys. run-whole s q es m st a n (array b ys) (events.OpensArray b) h ph ld nk nk refl))
 run-values s events.Closes q es m st a n h ph ld nk f = absurd f
 run-values s (events.Key d x) q es m st a n h ph ld nk f = absurd f
 run-values s (events.Value b v) q es m st a n h ph ld nk f =

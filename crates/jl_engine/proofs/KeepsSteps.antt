@@ -21,9 +21,8 @@ use Rattle.jl_engine.specs.declared.leads.Lead.{Lead}
 use Rattle.jl_engine.specs.declared.leads.LeadPart.TheVariants as parts
 use Rattle.jl_engine.specs.declared.leads.LeadSpot.TheVariants as spots
 use Rattle.jl_engine.specs.declared.readers.Reader.{Reader}
-use Rattle.jl_engine.proofs.KeepsLeadWhole.{in-run-steps, deep-steps, in-types-steps}
 use Rattle.jl_engine.proofs.KeepsLeadSteps.{at-steps, plain_lead, lead-steps, run-steps}
-use Rattle.jl_engine.proofs.KeepsLeadValues.{lead-values, run-values}
+use Rattle.jl_engine.proofs.KeepsLeadValues.{lead-values, run-values, in-run-steps, deep-steps, in-types-steps}
 use Rattle.jl_engine.proofs.KeepsFrames.{start-keeps}
 
 -- before a document

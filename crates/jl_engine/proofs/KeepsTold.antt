@@ -1,5 +1,5 @@
 -- A value has ended: the frame round it learns of it.
-use Rattle.std.proofs.Common.{◌≡◌, refl, sym, ◌∙◌, ap, subst, Bool, true, false, ◌&&◌, ◌||◌, List, [], ◌∷◌, ◌++◌, Option, Some, None}
+use Rattle.std.proofs.Common.{Ok, ◌≡◌, refl, sym, ◌∙◌, ap, subst, Bool, true, false, ◌&&◌, ◌||◌, List, [], ◌∷◌, ◌++◌, Option, Some, None}
 use Rattle.jl_defs.specs.Texts.{Text}
 use Rattle.jl_defs.specs.Settings.{Settings}
 use Rattle.jl_defs.specs.Keys.{Key, language, property, is_kind, is_value, is_language}
@@ -7,7 +7,7 @@ use Rattle.jl_defs.specs.ObjectContexts.{Inside}
 use Rattle.jl_defs.specs.Kept.{any_key}
 use Rattle.jl_laws.specs.Spots.{Spot, moved}
 use Rattle.jl_walk.specs.Frames.{Expected, no_value, property_value, keyword_value, dropped_value, Object, Frame, values, object as object_frame, types, dropped, spot_under, spot_in, its_entry, after_value, told}
-use Rattle.jl_frames.specs.Machine.{all_holding, complete}
+use Rattle.jl_frames.specs.Machine.{all_holding, complete, Step, state}
 use Rattle.jl_frames.specs.Nodes.{holding, rested}
 use Rattle.jl_frames.specs.declared.entries.Entries.{Entries}
 use Rattle.jl_frames.specs.declared.nodes.Node.{Node}
@@ -15,9 +15,13 @@ use Rattle.jl_frames.specs.declared.opens.Open.{Open}
 use Rattle.jl_frames.specs.declared.opens.Open.TheVariants as opens
 use Rattle.jl_frames.specs.declared.values.ValueParts.{ValueParts}
 use Rattle.jl_frames.proofs.Marks.{any-append}
-use Rattle.jl_engine.specs.KeepsFrames.{with_open, KeepsMarks, IsPlainEntry, IsFirstLanguage, AreEntries, KeepsParts, KeepsAt, KeepsIn, KeepsFrames}
+use Rattle.jl_engine.specs.KeepsFrames.{with_open, KeepsMarks, IsPlainEntry, IsFirstLanguage, AreEntries, KeepsParts, KeepsAt, KeepsIn, KeepsFrames, kept_node, IsExpected, AgreesLeading, node_valued}
 use Rattle.jl_engine.proofs.KeepsSpots.{same-spot}
 use Rattle.jl_engine.proofs.KeepsMarked.{property-marked, holds}
+use Rattle.jl_model.specs.Parts.{Parts}
+use Rattle.jl_model.specs.declared.graph_scopes.GraphScope.TheVariants.{Main}
+use Rattle.jl_defs.specs.ValueObjects.{untyped}
+use Rattle.jl_frames.specs.Formed.{formed}
 
 -- ---- one more entry
 
@@ -56,27 +60,29 @@ same-parts : (v : Bool) (o : Object) (ps : ValueParts) (ks : List Key) → any_k
 same-parts true o ps ks e h = h
 same-parts false o ps ks e h = e ∙ h
 
+-- an object with other parts, at its spot
+pub kept-at : (s : Settings) (held now : Bool) (p : Spot) (i : Inside) (o x : Object) (k : List Frame) (n m : Node) (es : Entries) (ps : ValueParts) (h : KeepsAt s held p i o k n) → m ≡ kept_node x h.keeps.valued es ps →
+    x.scope ≡ Main → IsExpected x.expects x.entries → KeepsMarks es (with_open now x.entries) → AreEntries x.entries → KeepsParts h.keeps.valued x ps → (any_key is_kind x.entries ≡ false → x.types ≡ untyped) →
+    KeepsAt s now p i x k m
+kept-at s held now p i o x k n m es ps h same main e marks are parts typed = record {
+  plain = h.plain;
+  round = h.round;
+  keeps = record { valued = h.keeps.valued; entries = es; parts = ps; same = same; in_main = main; expected = e; marks = marks; are_entries = are; its_parts = parts; typed = typed };
+  no_json = h.no_json;
+}
+
+-- a move that goes, and the stack after it
+pub agrees-on : (s : Settings) (b : Bool) (quads : List Parts) (k : List Frame) (n : Option Node) (opened : List Open) (t : Step) → t ≡ Ok (formed quads, state n opened) → KeepsIn s false k n opened → node_valued n ≡ b →
+    AgreesLeading s b (Ok (quads, k)) t
+agrees-on s b quads k n opened t e h v = (state n opened, (e, ((refl, h), v)))
+
 -- with these entries, and these marks
 pub rested-at : (s : Settings) (held : Bool) (p : Spot) (i : Inside) (o : Object) (k : List Frame) (n : Node) (ks : List Key) (es : Entries) → KeepsAt s held p i o k n →
     KeepsMarks es ks → AreEntries ks → any_key is_value ks ≡ any_key is_value o.entries → any_key is_kind ks ≡ any_key is_kind o.entries →
     KeepsAt s false p i (record o { entries = ks; expects = no_value }) k (rested (record n { entries = es }))
-rested-at s held p i o k n ks es h m a v t = record {
-  plain = h.plain;
-  round = h.round;
-  keeps = record {
-    valued = h.keeps.valued;
-    entries = es;
-    parts = h.keeps.parts;
-    same = ap (λ x. rested (record x { entries = es })) h.keeps.same;
-    in_main = h.keeps.in_main;
-    expected = tt;
-    marks = m;
-    are_entries = a;
-    its_parts = same-parts h.keeps.valued o h.keeps.parts ks v h.keeps.its_parts;
-    typed = λ e. h.keeps.typed (sym t ∙ e);
-  };
-  no_json = h.no_json;
-}
+rested-at s held p i o k n ks es h m a v t =
+    kept-at s held false p i o (record o { entries = ks; expects = no_value }) k n (rested (record n { entries = es })) es h.keeps.parts h (ap (λ x. rested (record x { entries = es })) h.keeps.same) h.keeps.in_main tt m a
+    (same-parts h.keeps.valued o h.keeps.parts ks v h.keeps.its_parts) (λ e. h.keeps.typed (sym t ∙ e))
 
 -- its marks, where no array of values is open
 pub its-marks : (s : Settings) (held : Bool) (p : Spot) (i : Inside) (o : Object) (k : List Frame) (n : Node) → KeepsAt s held p i o k n → KeepsMarks n.entries (with_open held o.entries)

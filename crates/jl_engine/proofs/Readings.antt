@@ -36,10 +36,6 @@ pub stops_first : (why : FrameStop) (read : Read) (next : Reader → Read) → H
 stops_first (stop.Refused f) read next e = ap (λ t. then_reads t next) e
 stops_first stop.NoMemory read next e = tt
 
-none_before : (read : Read) → before [] read ≡ read
-none_before (Ok (quads, r)) = refl
-none_before (Err f) = refl
-
 err_after : (f : Fault) (old : List Parts) (read : Read) → before old read ≡ Err f → read ≡ Err f
 err_after f old (Ok x) e = absurd cc
 err_after f old (Err g) e = e
@@ -47,11 +43,6 @@ err_after f old (Err g) e = e
 pub stops_after : (why : FrameStop) (old : List Parts) (all rest : Read) (quads : List Parts) → before old all ≡ before quads rest → HasCause why rest → HasCause why all
 stops_after (stop.Refused f) old all rest quads same e = err_after f old all (same ∙ ap (before quads) e)
 stops_after stop.NoMemory old all rest quads same e = tt
-
--- one after another
-pub both : (result : Result (Unit {0}) FrameStop) (old mid new : List Parts) (read : Read) (r last : Reader) (next : Reader → Read) → before old read ≡ Ok (mid, r) → Reads result mid (next r) new last → Reads result old (then_reads read next) new last
-both (Ok done) old mid new read r last next e f = before_then old read next ∙ ap (λ t. then_reads t next) e ∙ f
-both (Err why) old mid new read r last next e f = stops_after why old (then_reads read next) (next r) mid (before_then old read next ∙ ap (λ t. then_reads t next) e) f
 
 -- ---- what was held
 

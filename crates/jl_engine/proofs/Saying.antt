@@ -1,6 +1,6 @@
 -- What is said for some tokens, and how much of it is put.
-use Rattle.std.proofs.Common.{◌≡◌, ℕ, ◌+◌, ◌<◌, Bool, List, [], ◌∷◌, ◌++◌, length, take, drop, get_or, inl, inr, Result, Ok, Err, refl, sym, ap, ◌∙◌, subst, append_assoc, append-nil}
-use Rattle.std.proofs.lemmas.List.{take_more, take-append-drop}
+use Rattle.std.proofs.Common.{◌≡◌, ℕ, Bool, List, [], ◌++◌, take, drop, inl, inr, Result, Ok, Err, refl, sym, ap, ◌∙◌, subst, append_assoc, append-nil}
+use Rattle.std.proofs.lemmas.List.{take-append-drop}
 use Rattle.jl_model.specs.Parts.{Parts}
 use Rattle.jl_model.specs.declared.tokens.Token.{Token}
 use Rattle.jl_frames.specs.Answers.{HasCause}
@@ -39,11 +39,6 @@ outside_stops OutFault read h = tt
 outside_stops NoMemory read h = tt
 
 -- ---- quads
-
-pub put_more : (told now later : List Parts → Type 0) (selects mid : Parts → Bool) (quads : List Parts) (n : ℕ) (q : Parts) → n < length quads → q ≡ get_or quads n q → ((p : Parts) → mid p ≡ selects p)
-    → WerePut told now selects (take n quads) → WerePut now later mid (q ∷ []) → WerePut told later selects (take (n + 1) quads)
-put_more told now later selects mid quads n q within is same a b =
-    subst (WerePut told later selects) (ap (λ x. take n quads ++ x ∷ []) is ∙ sym (take_more quads n q within)) (put-both told now later selects mid (take n quads) (q ∷ []) same a b)
 
 pub some_of : (told now later : List Parts → Type 0) (selects mid : Parts → Bool) (quads : List Parts) (n : ℕ) → ((p : Parts) → mid p ≡ selects p)
     → WerePut told now selects (take n quads) → WerePut now later mid [] → PutSome told later selects quads

@@ -33,18 +33,13 @@ then-fine : (first : Said) (next : Head → Said) → FineSaid first → ((h : H
 then-fine first next a b = let c = b first.1 a.1 in (both-formed first.0 (next first.1).0 a.0 c.0, c.1)
 
 inside-fine : (around : Around) → FineAround around → FineAround (inside around)
-inside-fine document a = tt
-inside-fine ordinary a = tt
-inside-fine graphs a = tt
 inside-fine (map_entry adds) a = a
 inside-fine (graph_map_entry adds) a = a
+inside-fine x a = tt
 
 inside-list-fine : (around : Around) → FineAround (inside_list around)
 inside-list-fine document = tt
-inside-list-fine ordinary = tt
-inside-list-fine graphs = tt
-inside-list-fine (map_entry adds) = tt
-inside-list-fine (graph_map_entry adds) = tt
+inside-list-fine x = tt
 
 scalar-in-fine : (p : Spot) (name : Text) (at : ℕ) (v : Scalar) (r : Result Context Code) → FineHead p.head → FineAround p.role.around → FineSaid (scalar_in p name at v r)
 scalar-in-fine p name at v (Ok c) h a = scalar-fine p.role.around p.role.hanging at (value_of c name v) p.head a (value-fine c name v) h
@@ -63,10 +58,8 @@ value-at-fine false p i at ms h a = (tt, h)
 graph-at-fine : (around : Around) (p : Spot) (i : Inside) (at : ℕ) (ms : Members) (content : Unit {0} → Said) (own : Own) → FineHead p.head → FineAround around → FineSaid (content tt) → FineOwn own →
     FineSaid (graph_at_spot around p i at ms content own)
 graph-at-fine document p i at ms content own h a c o = c
-graph-at-fine ordinary p i at ms content own h a c o = (tt, h)
-graph-at-fine graphs p i at ms content own h a c o = (tt, h)
-graph-at-fine (map_entry adds) p i at ms content own h a c o = (tt, h)
 graph-at-fine (graph_map_entry adds) p i at ms content own h a c o = graph-object-fine (graph_map_entry adds) p.role.hanging at (naming i.final ms) own p.head a o h
+graph-at-fine x p i at ms content own h a c o = (tt, h)
 
 object-fine : (shape : Shape) (p : Spot) (i : Inside) (at : ℕ) (ms : Members) (its_list : Content) (its_set content : Unit {0} → Said) (own : Own) → FineHead p.head → FineAround p.role.around →
     FineContent its_list → FineSaid (its_set tt) → FineSaid (content tt) → FineOwn own → FineSaid (object_says shape p i at ms its_list its_set content own)

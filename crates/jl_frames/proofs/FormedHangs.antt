@@ -46,11 +46,9 @@ abbrev pub FineContent : Content → Type 0
 FineContent content = (hanging : Hanging) (h : Head) → FineHead h → FineSaid (content hanging h)
 
 abbrev pub FineAround : Around → Type 0
-FineAround document = Unit {0}
-FineAround ordinary = Unit {0}
-FineAround graphs = Unit {0}
 FineAround (map_entry adds) = FineAddition adds
 FineAround (graph_map_entry adds) = FineAddition adds
+FineAround x = Unit {0}
 
 -- ---- one quad
 
@@ -124,20 +122,15 @@ node-fine (map_entry adds) hanging at naming own h a o f = plain-node-fine hangi
 node-fine (graph_map_entry adds) hanging at naming own h a o f = graph-node-fine hanging adds at (own (term_of_node at naming)) h a (λ scope g. o (term_of_node at naming) scope (node-term at naming) g) f
 
 pub graph-object-fine : (around : Around) (hanging : Hanging) (at : ℕ) (naming : Naming) (own : Own) (h : Head) → FineAround around → FineOwn own → FineHead h → FineSaid (graph_object_says around hanging at naming own h)
-graph-object-fine document hanging at naming own h a o f = (tt, f)
-graph-object-fine ordinary hanging at naming own h a o f = (tt, f)
-graph-object-fine graphs hanging at naming own h a o f = (tt, f)
-graph-object-fine (map_entry adds) hanging at naming own h a o f = (tt, f)
 graph-object-fine (graph_map_entry adds) hanging at naming own h a o f = plain-node-fine hanging adds at naming own h a o f
+graph-object-fine x hanging at naming own h a o f = (tt, f)
 
 -- ---- values and lists
 
 pub value-said : (around : Around) (hanging : Hanging) (at : ℕ) (o : Option Term) (h : Head) → FineAround around → ObjectOrNone o → FineHead h → FineSaid (value_says around hanging at o h)
-value-said document hanging at o h a t f = hangs-fine hanging at o h f t
-value-said ordinary hanging at o h a t f = hangs-fine hanging at o h f t
 value-said graphs hanging at o h a t f = graph-node-fine hanging adds_nothing at no_content h tt (λ scope g. tt) f
-value-said (map_entry adds) hanging at o h a t f = hangs-fine hanging at o h f t
 value-said (graph_map_entry adds) hanging at o h a t f = graph-node-fine hanging adds at no_content h a (λ scope g. tt) f
+value-said x hanging at o h a t f = hangs-fine hanging at o h f t
 
 pub scalar-fine : (around : Around) (hanging : Hanging) (at : ℕ) (v : Valued) (h : Head) → FineAround around → FineValued v → FineHead h → FineSaid (scalar_says around hanging at v h)
 scalar-fine around hanging at (reference name) h a v f = node-fine around hanging at (named name) says_nothing h a (λ n scope t g. tt) f
@@ -163,8 +156,6 @@ plain-list-fine listed at content h c f =
 plain-list-fine loose at content h c f = ((c loose h f).0, f)
 
 pub list-fine : (around : Around) (hanging : Hanging) (at : ℕ) (content : Content) (h : Head) → FineAround around → FineContent content → FineHead h → FineSaid (list_says around hanging at content h)
-list-fine document hanging at content h a c f = plain-list-fine hanging at content h c f
-list-fine ordinary hanging at content h a c f = plain-list-fine hanging at content h c f
 list-fine graphs hanging at content h a c f = graph-node-fine hanging adds_nothing at (λ scope. loose_content content (in_scope h scope)) h tt (λ scope g. (c loose (in_scope h scope) (f.0, g)).0) f
-list-fine (map_entry adds) hanging at content h a c f = plain-list-fine hanging at content h c f
 list-fine (graph_map_entry adds) hanging at content h a c f = graph-node-fine hanging adds at (λ scope. loose_content content (in_scope h scope)) h a (λ scope g. (c loose (in_scope h scope) (f.0, g)).0) f
+list-fine x hanging at content h a c f = plain-list-fine hanging at content h c f

@@ -265,8 +265,7 @@ literal-fine (Str text) datatype (Some tag) = tagged-fine text tag
 
 reference-fine : (e : Expanded) → FineValued (reference_to e)
 reference-fine expanded.Null = tt
-reference-fine (expanded.Keyword text) = tt
-reference-fine (expanded.Name text) = tt
+reference-fine x = tt
 
 string-by-fine : (c : Context) (t : Option TermDef) (text : Text) (datatype : Option Text) → FineValued (string_by c t text datatype)
 string-by-fine c t text (Some datatype) = literal-fine (Str text) (Some datatype) None
@@ -293,11 +292,7 @@ json-number-fine t (Err code) = tt
 
 pub json-fine : (t : Tree) → FineValued (json_value t)
 json-fine (a_scalar at (Number token)) = json-number-fine (a_scalar at (Number token)) (json_number token)
-json-fine (a_scalar at Null) = refl
-json-fine (a_scalar at (boolean b)) = refl
-json-fine (a_scalar at (Str text)) = refl
-json-fine (array at xs) = refl
-json-fine (object at ms) = refl
+json-fine x = refl
 
 typed-fine : (t : ValueType) (language : Option Text) (v : Tree) → FineValued (typed_literal t language v)
 typed-fine t language (a_scalar at v) = literal-fine v (type_iri t) language
@@ -305,17 +300,12 @@ typed-fine t language (array at xs) = tt
 typed-fine t language (object at ms) = tt
 
 object-value-fine : (t : ValueType) (language : Option Text) (v : Tree) → FineValued (object_value t language v)
-object-value-fine t language v = by (is_json_type t)
-  where
-    by : (b : Bool) → FineValued (elim b [ true ↦ json_value v | false ↦ typed_literal t language v ])
-    by true = json-fine v
-    by false = typed-fine t language v
+object-value-fine t language v =
+    elim (is_json_type t) as (λ b. FineValued (elim b [ true ↦ json_value v | false ↦ typed_literal t language v ])) [ true ↦ json-fine v | false ↦ typed-fine t language v ]
 
 unless-fine : (v : Valued) → FineValued v → FineValued (unless_refused v)
-unless-fine (reference name) f = tt
 unless-fine (literal lit) f = f
-unless-fine left_out f = tt
-unless-fine (refused code) f = tt
+unless-fine x f = tt
 
 value-in-fine : (i : Inside) (ms : Members) (v : Option Tree) → FineValued (value_in i ms v)
 value-in-fine i ms None = tt
@@ -332,13 +322,11 @@ language-fine (Some tag) text = tagged-fine text tag
 
 name-added-fine : (e : Expanded) → FineAddition (name_added e)
 name-added-fine expanded.Null = tt
-name-added-fine (expanded.Keyword text) = tt
-name-added-fine (expanded.Name text) = tt
+name-added-fine x = tt
 
 type-added-fine : (e : Expanded) → FineAddition (type_added e)
 type-added-fine expanded.Null = tt
-type-added-fine (expanded.Keyword text) = tt
-type-added-fine (expanded.Name text) = tt
+type-added-fine x = tt
 
 property-added-fine : (d : Context) (index name : Text) (e : Expanded) → FineAddition (property_added d index name e)
 property-added-fine d index name expanded.Null = tt
@@ -350,19 +338,13 @@ index-added-fine d None name = tt
 index-added-fine d (Some index) name = property-added-fine d index name (expand_iri d index true false)
 
 addition-by-fine : (d : Context) (t : TermDef) (name : Text) (k : Option MapKind) → FineAddition (addition_by d t name k)
-addition-by-fine d t name None = tt
-addition-by-fine d t name (Some map_kind.Language) = tt
-addition-by-fine d t name (Some map_kind.Index) = tt
-addition-by-fine d t name (Some map_kind.GraphIndex) = tt
 addition-by-fine d t name (Some map_kind.PropertyIndex) = index-added-fine d t.index name
 addition-by-fine d t name (Some map_kind.GraphPropertyIndex) = index-added-fine d t.index name
 addition-by-fine d t name (Some map_kind.Id) = name-added-fine (expand_iri d name false true)
 addition-by-fine d t name (Some map_kind.GraphId) = name-added-fine (expand_iri d name false true)
 addition-by-fine d t name (Some map_kind.Kind) = type-added-fine (expand_iri d name true false)
+addition-by-fine d t name x = tt
 
 pub addition-fine : (d : Context) (t : TermDef) (name : Text) → FineAddition (addition d t name)
-addition-fine d t name = by (is_none_key d name)
-  where
-    by : (b : Bool) → FineAddition (elim b [ true ↦ adds_nothing | false ↦ addition_by d t name (map_kind_of t) ])
-    by true = tt
-    by false = addition-by-fine d t name (map_kind_of t)
+addition-fine d t name =
+    elim (is_none_key d name) as (λ b. FineAddition (elim b [ true ↦ adds_nothing | false ↦ addition_by d t name (map_kind_of t) ])) [ true ↦ tt | false ↦ addition-by-fine d t name (map_kind_of t) ]

@@ -4,7 +4,6 @@ pub mod Hanging
 pub mod TextTerms
 pub mod Marks
 pub mod EntryMarks
-pub mod Ends
 pub mod FormedTerms
 pub mod FormedHangs
 pub mod AllFormed

@@ -21,9 +21,6 @@ pub record Marks (es : Entries) (ks : List Key) : Type 0 where
   pub index : es.index ≡ any_key is_index ks
   pub property : es.property ≡ any_key is_property ks
 
-pub marks-none : Marks no_entries []
-marks-none = record { id = refl; kind = refl; value = refl; language = refl; direction = refl; index = refl; property = refl }
-
 or-assoc : (a b c : Bool) → ((a || b) || c) ≡ (a || (b || c))
 or-assoc true b c = refl
 or-assoc false b c = refl

@@ -1,6 +1,6 @@
 use Rattle.std.proofs.Common.{refl, sym, ap, ◌∙◌}
 use Rattle.jl_defs.specs.Context.{initial}
-use Rattle.jl_engine.proofs.Consequences.{stands-new}
+use Rattle.jl_engine.proofs.Feeding.{stands-new}
 use Rattle.jl_engine.proofs.KeepsSteps.{starts-keep}
 use Rattle.jl_engine.proofs.engines.Engine.new.Goals as goal
 

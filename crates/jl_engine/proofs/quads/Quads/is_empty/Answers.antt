@@ -1,6 +1,6 @@
 use Rattle.std.proofs.Common.{sym, ◌∙◌}
 use Rattle.std.proofs.lemmas.Bool.{false≢true}
-use Rattle.jl_frames.proofs.Ends.{left-nil}
+use Rattle.jl_walk.proofs.Runs.{left-nil}
 use Rattle.jl_engine.proofs.quads.Quads.is_empty.Goals as goal
 
 pub returns-else-is_empty : goal.returns-else-is_empty
