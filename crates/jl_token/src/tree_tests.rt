@@ -33,14 +33,12 @@ fn the_tree_of_a_text(rt: HostRuntime) -> Result<(), Fail> {
     let mut lexer = Lexer::new(alloc, 0);
     let mut tree = Tree::new(alloc);
     for byte in b"{\"a\":[1,null,{}],\"b\":{\"c\":true},\"d\":2}" {
+        assert!(rt; !lexer.state().ended);
         let Ok(step) = lexer.step(alloc, *byte) else {
             panic!(rt; "a text is refused");
         };
         assert!(rt; push(alloc, &mut tree, step.first)?);
         assert!(rt; push(alloc, &mut tree, step.second)?);
-        if lexer.state().stopped.is_some() {
-            break;
-        }
     }
     assert!(rt; tree.is_whole());
     let json = tree.finish();
