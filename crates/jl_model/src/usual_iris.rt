@@ -7,20 +7,18 @@ ghost use Rattle.jl_model.specs.UsualIris.{is_usual_byte, HasUsualScheme};
 use super::text_tests::is_iri_byte;
 use std::simd::prelude::*;
 
-/// For the low four bits of a byte, which high four bits leave it out of usual IRIs, in groups:
-/// 1 stands for 0, 1 and all from 8 on, 2 for 2, 4 for 3 and 5, 8 for 6, and 16 for 7.
-const LOW_MARKS: [u8; 16] = [11, 1, 3, 1, 1, 1, 1, 1, 1, 1, 1, 17, 21, 17, 5, 1];
-
-/// The group of the high four bits of a byte. Where they are 4, no byte is left out.
-const HIGH_MARKS: [u8; 16] = [1, 1, 2, 4, 0, 4, 8, 16, 1, 1, 1, 1, 1, 1, 1, 1];
-
+/// The ASCII bytes that no IRI has are the controls and the blank, `<` and `>`, `\` and `^`, `{`,
+/// `|` and `}`, `"` and the backtick. The two of a pair differ in the second bit alone.
 #[inline(always)]
 fn is_usual_block(block: u8x16) -> bool
     ensures { result ≡ list_all is_usual_byte block }
 {
-    let low = u8x16::from_array(LOW_MARKS).swizzle_dyn(block & u8x16::splat(15));
-    let high = u8x16::from_array(HIGH_MARKS).swizzle_dyn(block >> u8x16::splat(4));
-    (low & high).simd_ne(u8x16::splat(0)).to_bitmask() == 0
+    let outside = (block - u8x16::splat(b'!')).simd_ge(u8x16::splat(128 - b'!'));
+    let braces = (block - u8x16::splat(b'{')).simd_lt(u8x16::splat(3));
+    let paired = block | u8x16::splat(2);
+    let pairs = paired.simd_eq(u8x16::splat(b'>')) | paired.simd_eq(u8x16::splat(b'^'));
+    let quotes = block.simd_eq(u8x16::splat(b'"')) | block.simd_eq(u8x16::splat(b'`'));
+    (outside | braces | pairs | quotes).to_bitmask() == 0
 }
 
 /// The last block may have bytes of the one before.

@@ -1,11 +1,5 @@
-use Rattle.jl_model.proofs.UsualBlocks.{low_places, high_places, block_marks, usual_block}
+use Rattle.jl_model.proofs.UsualBlocks.{block_marks, usual_block}
 use Rattle.jl_model.proofs.usual_iris.is_usual_block.Goals as goal
 
-pub swizzle-low : goal.swizzle-low
-swizzle-low c = low_places c.args.block c.fits-block.0
-
-pub swizzle-high : goal.swizzle-high
-swizzle-high c = high_places c.args.block c.fits-block.0 c.fits-block.1
-
 pub returns : goal.returns
-returns c = usual_block c.args.block _ c.fits-block.0 c.fits-block.1 (block_marks c.args.block c.fits-block.0 c.fits-block.1)
+returns c = usual_block c.args.block _ c.fits-block.0 c.fits-block.1 (block_marks c.args.block c.fits-block.0)

@@ -1,4 +1,4 @@
-use Rattle.std.proofs.Common.{◌≡◌, sym, subst}
+use Rattle.std.proofs.Common.{sym, subst}
 use Rattle.jl_model.specs.Parts.{IsObject, plain, parts_of}
 use Rattle.jl_model.specs.declared.terms.Term.TheVariants.{Literal}
 use Rattle.jl_model.proofs.Datatypes.{plain_is_object, object_set}
