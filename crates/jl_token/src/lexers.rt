@@ -143,11 +143,11 @@ impl Lexer {
         let room = END_OF_PLACES - self.state.reading.at;
         let within = (bytes.len() as u64).min(room) as usize;
         let next = self.state.next(alloc, &bytes[..within]);
-        if within == bytes.len() {
-            return next;
-        }
         match next {
             Next::Nothing => {
+                if within == bytes.len() {
+                    return next;
+                }
                 self.state.stop(TOO_LONG);
                 Next::Stopped { count: within + 1 }
             }

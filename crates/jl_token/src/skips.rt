@@ -65,7 +65,8 @@ impl Reading {
         Ok(count)
     }
 
-    /// Moves on over the first of these bytes that are blanks.
+    /// Moves on over the first of these bytes that are blanks. Where the first one is none, which is
+    /// so before most tokens, nothing is counted.
     #[inline(always)]
     fn skip_blanks(&mut self, bytes: &[u8]) -> usize
         requires room { self.old.at + length bytes.now < 2 ^ 63 }
@@ -76,6 +77,9 @@ impl Reading {
         ensures spot { self.new.spot ≡ self.old.spot }
         ensures within { self.new.within ≡ self.old.within }
     {
+        if bytes.is_empty() || bytes[0] > b' ' {
+            return 0;
+        }
         let count = blank_len(bytes);
         self.at += count as u64;
         count

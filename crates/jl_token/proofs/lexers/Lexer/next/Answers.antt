@@ -18,8 +18,8 @@ returns-then-within-bytes-clause-reached c = λ _.
     subst (λ (s : LexState). Reached next s new c.args.bytes.now) c.self.view_is
     (subst (λ (xs : List ℕ). Reached next c.self.inside.state new xs) (take_all c.min-within.result c.args.bytes.now (omega (arith, c.if-within-bytes.true))) c.next-next.ensures.reached)
 
-pub returns-in-Nothing-clause-reached : goal.returns-in-Nothing-clause-reached
-returns-in-Nothing-clause-reached c = λ e.
+pub returns-else-within-bytes-clause-reached : goal.returns-else-within-bytes-clause-reached
+returns-else-within-bytes-clause-reached c = λ e.
     let n : ℕ = c.min-within.result in
     let mid : LexState = c.next-next.new.self in
     let stop : LexStop = Refused (record { code = TooLong; at = end_of_places }) in
