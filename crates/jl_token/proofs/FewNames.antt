@@ -1,11 +1,12 @@
 -- A name that comes to an object whose names stand in the buffer.
-use Rattle.std.proofs.Common.{◌≡◌, ℕ, suc, ◌+◌, ◌-◌, ◌^◌, min, true, false, not, ◌||◌, List, [], ◌∷◌, length, take, refl, sym, ap, subst, ◌∙◌, arith}
-use Rattle.std.proofs.lemmas.Bool.{false≢true}
+use Rattle.std.proofs.Common.{◌≡◌, ℕ, suc, ◌+◌, ◌-◌, ◌^◌, min, true, false, not, ◌||◌, List, [], ◌∷◌, length, take, drop, refl, sym, ap, subst, ◌∙◌, arith}
 use Rattle.std.specs.List.{list_any}
 use Rattle.std.specs.Str.{bytes_eq}
+use Rattle.jl_token.specs.declared.opens.Open.TheVariants as opens
 use Rattle.jl_token.specs.declared.within.Within.TheVariants as withins
 use Rattle.jl_token.specs.Names.{names_len}
-use Rattle.jl_token.specs.NameStacks.{set_of, Adds, StaysCounted}
+use Rattle.jl_token.specs.NameStacks.{set_of, opens_of, Adds, StaysCounted}
+use Rattle.jl_token.proofs.RisingNames.{known_name}
 use Rattle.jl_token.proofs.NamesAmong.{among-with_name, names_len-with_name}
 
 -- a set of names has those that are in the list
@@ -20,7 +21,7 @@ longer len more names name new len_is more_is =
     omega (arith, sum, len_is, more_is)
 
 one_more : (count len more : ℕ) (names : List (List ℕ)) (name : List ℕ) → list_any (bytes_eq name) (take count names) ≡ false → Adds (withins.Few count len) (withins.Few (suc count) more) names (name ∷ names) name true
-one_more count len more names name new below = (sym (ap not (has_few name (take count names) ∙ new)), λ q. refl)
+one_more count len more names name new below = (sym (ap not (has_few name (take count names) ∙ new)), refl)
 
 one_counted : (count len more : ℕ) (names : List (List ℕ)) (name : List ℕ) → list_any (bytes_eq name) (take count names) ≡ false → more ≡ min (len + length name) (2 ^ 64 - 1) → StaysCounted (withins.Few count len) (withins.Few (suc count) more) names (name ∷ names)
 one_counted count len more names name new more_is below counted = (longer len more (take count names) name new counted.0 more_is, counted.1)
@@ -40,4 +41,6 @@ counts_few count to len more names all name new to_is all_is more_is =
 
 -- one that is there changes nothing
 pub keeps_few : (count len : ℕ) (names : List (List ℕ)) (name : List ℕ) → list_any (bytes_eq name) (take count names) ≡ true → Adds (withins.Few count len) (withins.Few count len) names names name false
-keeps_few count len names name is below = (sym (ap not (has_few name (take count names) ∙ is)), λ q. absurd (false≢true q))
+keeps_few count len names name is below =
+    let has = has_few name (take count names) ∙ is in
+    (sym (ap not has), ap (λ set. opens.Object set ∷ opens_of below (drop count names)) (sym (known_name (take count names) name has)))

@@ -24,6 +24,7 @@ mod PlainRuns
 mod AsciiFronts
 mod TextLanes
 mod LastOpens
+mod RisingNames
 mod FewNames
 mod OpenStores
 mod NameRows

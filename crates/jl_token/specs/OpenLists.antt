@@ -1,5 +1,5 @@
 -- The open containers, the innermost first.
-use Rattle.std.specs.Prelude.{◌≡◌, ℕ, Bool, true, not, List, [], ◌∷◌}
+use Rattle.std.specs.Prelude.{◌≡◌, ℕ, Bool, not, List, [], ◌∷◌}
 use Rattle.std.specs.List.{list_any}
 use Rattle.std.specs.Str.{bytes_eq}
 use Rattle.jl_token.specs.declared.opens.Open.{Open}
@@ -17,9 +17,9 @@ abbrev pub IsInObject : List Open → Type 0
 IsInObject (opens.Object had ∷ below) = Unit {0}
 IsInObject _ = ⊥
 
--- the innermost one is an object; this says whether this name is new to it, and if so, it has it from then on
+-- the innermost one is an object, which has this name from then on; this says whether that was new to it
 abbrev pub AddsName : List Open → List Open → List ℕ → Bool → Type 0
-AddsName (opens.Object had ∷ below) new name added = (added ≡ not (list_any (bytes_eq name) had)) × (added ≡ true → new ≡ opens.Object (with_name had name) ∷ below)
+AddsName (opens.Object had ∷ below) new name added = (added ≡ not (list_any (bytes_eq name) had)) × (new ≡ opens.Object (with_name had name) ∷ below)
 AddsName _ new name added = ⊥
 
 -- a container of this shape that has nothing yet
