@@ -34,8 +34,9 @@ const TOO_LONG: LexStop = LexStop::Refused(Fault {
 
 /// A lexer of one JSON text (RFC 8259) in UTF-8.
 ///
-/// It takes the bytes of the text one after another, and gives each token at the byte that completes
-/// it. It refuses a text at the first byte with which the text can't go on to be readable.
+/// It takes the bytes of the text one after another, and gives each token at the byte that
+/// completes it. It refuses a text at the first byte with which the text can't go on to be
+/// readable.
 #[derive(Debug, Drop)]
 pub struct Lexer {
     state: LexState,
@@ -105,11 +106,15 @@ impl Lexer {
 
     /// One byte, whose tokens keep their text in the state.
     fn take(&mut self, alloc: Global, byte: u8) -> Result<Signs, LexStop>
-        ensures moves { IfOk result (λ signs. machine.moved true 256 self.old.reading byte ≡ Ok (told signs self.old.reading.at self.new.reading, self.new.reading)) }
+        ensures moves { IfOk result (λ signs.
+            machine.moved true 256 self.old.reading byte
+            ≡ Ok (told signs self.old.reading.at self.new.reading, self.new.reading)) }
         ensures texts { IfOk result (λ signs. HasOneText signs.number signs.sign) }
         ensures was { OnOk result (self.old.stopped ≡ None) }
-        ensures stops { IfErr result (λ stop. (self.new.stopped ≡ Some stop) × Stops self.old byte stop) }
-        ensures again { (stop : LexStop) → self.old.stopped ≡ Some stop → (result ≡ Err stop) × (self.new ≡ self.old) }
+        ensures stops { IfErr result (λ stop.
+            (self.new.stopped ≡ Some stop) × Stops self.old byte stop) }
+        ensures again { (stop : LexStop) → self.old.stopped ≡ Some stop
+            → (result ≡ Err stop) × (self.new ≡ self.old) }
         ensures goes_on { OnOk result (self.new.stopped ≡ None) }
         ensures ended { self.new.ended ≡ self.old.ended }
     {
@@ -124,15 +129,16 @@ impl Lexer {
 
     /// Takes bytes up to and with the first that completes a token, or all of them.
     ///
-    /// The text of a key, a string or a number stands in `text()`, and its place in `token_place()`,
-    /// until the next token begins. Where the lexer has stopped, the error stands in
-    /// `state().stopped`.
+    /// The text of a key, a string or a number stands in `text()`, and its place in
+    /// `token_place()`, until the next token begins. Where the lexer has stopped, the error stands
+    /// in `state().stopped`.
     pub fn next(&mut self, alloc: Global, bytes: &[u8]) -> Next
         requires live { self.old.ended ≡ false }
         ensures reached { self.old.stopped ≡ None → Reached result self.old self.new bytes.now }
         ensures bound { CountsWithin result (length bytes.now) }
         ensures places { self.old.stopped ≡ None → HavePlaces self.old result (length bytes.now) }
-        ensures again { IsSome self.old.stopped → (result ≡ Next.Stopped 0) × (self.new ≡ self.old) }
+        ensures again { IsSome self.old.stopped
+            → (result ≡ Next.Stopped 0) × (self.new ≡ self.old) }
         ensures goes_on { goes_on result ≡ true → self.new.stopped ≡ None }
         ensures stops { goes_on result ≡ false → IsSome self.new.stopped }
         ensures still_live { self.new.ended ≡ false }
@@ -155,8 +161,8 @@ impl Lexer {
         }
     }
 
-    /// The text of the token that is being read, as far as it was read, or of the last one that had a
-    /// text: what a string or a name means, or the bytes of a number.
+    /// The text of the token that is being read, as far as it was read, or of the last one that had
+    /// a text: what a string or a name means, or the bytes of a number.
     pub fn text(&self) -> &Text
         ensures { result.now ≡ self.now.reading.part }
     {
@@ -177,8 +183,10 @@ impl Lexer {
         requires live { self.old.ended ≡ false }
         ensures taken { IfOk result (λ step. Takes self.old self.new byte (tokens_of step)) }
         ensures whole { IfOk result (λ step. AreWhole self.old byte (tokens_of step)) }
-        ensures stops { IfErr result (λ stop. (self.new.stopped ≡ Some stop) × Stops self.old byte stop) }
-        ensures again { (stop : LexStop) → self.old.stopped ≡ Some stop → (result ≡ Err stop) × (self.new ≡ self.old) }
+        ensures stops { IfErr result (λ stop.
+            (self.new.stopped ≡ Some stop) × Stops self.old byte stop) }
+        ensures again { (stop : LexStop) → self.old.stopped ≡ Some stop
+            → (result ≡ Err stop) × (self.new ≡ self.old) }
         ensures goes_on { OnOk result (self.new.stopped ≡ None) }
         ensures still_live { self.new.ended ≡ false }
     {
@@ -224,14 +232,16 @@ impl Lexer {
 
     /// The end of the text: the number that only the end completes, if there is one.
     ///
-    /// It takes no memory. An Ok ends the lexer, and after an error each call answers the same error
-    /// again.
+    /// It takes no memory. An Ok ends the lexer, and after an error each call answers the same
+    /// error again.
     pub fn finish(&mut self, alloc: Global) -> Result<Option<Token>, LexStop>
         requires live { self.old.ended ≡ false }
         ensures read { IfOk result (λ token. Ends self.old token) }
         ensures number { IfOk result (λ token. IfSome token IsNumberToken) }
-        ensures stops { IfErr result (λ stop. (self.new.stopped ≡ Some stop) × StopsEnd self.old stop) }
-        ensures again { (stop : LexStop) → self.old.stopped ≡ Some stop → (result ≡ Err stop) × (self.new ≡ self.old) }
+        ensures stops { IfErr result (λ stop.
+            (self.new.stopped ≡ Some stop) × StopsEnd self.old stop) }
+        ensures again { (stop : LexStop) → self.old.stopped ≡ Some stop
+            → (result ≡ Err stop) × (self.new ≡ self.old) }
         ensures ended { OnOk result (self.new.ended ≡ true) }
         ensures still_live { OnErr result (self.new.ended ≡ false) }
     {
@@ -252,12 +262,15 @@ impl Lexer {
 /// tokens given for them are the first ones of each readable text that begins so.
 #[tactic(auto, using(crate::proofs::LexerCalls::relation))]
 pub fn law_front()
-    ensures { (start : ℕ) (p : List ℕ) (given : List Token) (s : LexState) → Stands start p given s → IsFront start p given }
+    ensures { (start : ℕ) (p : List ℕ) (given : List Token) (s : LexState)
+        → Stands start p given s → IsFront start p given }
 {}
 
 /// A text has one reading at most: one tree, and one list of tokens.
 pub fn law_one_reading()
-    ensures { (start : ℕ) (text : List ℕ) (tree other : Tree) (tokens others : List Token) → Reads start text tree tokens → Reads start text other others → (tree ≡ other) × (tokens ≡ others) }
+    ensures { (start : ℕ) (text : List ℕ) (tree other : Tree) (tokens others : List Token)
+        → Reads start text tree tokens → Reads start text other others
+        → (tree ≡ other) × (tokens ≡ others) }
 {}
 
 /// What a string means is UTF-8.
@@ -265,22 +278,29 @@ pub fn law_utf8()
     ensures { (meant text : List ℕ) → IsString meant text → IsUtf8 meant }
 {}
 
-/// The name of each key and each string of a readable text's tokens is UTF-8, and of the tokens that
-/// were given so far.
+/// The name of each key and each string of a readable text's tokens is UTF-8, and of the tokens
+/// that were given so far.
 pub fn law_tokens_utf8()
-    ensures reading { (start : ℕ) (text : List ℕ) (tree : Tree) (tokens : List Token) → Reads start text tree tokens → AllByRecursion HasUtf8 tokens }
-    ensures given { (start : ℕ) (p : List ℕ) (given : List Token) (s : LexState) → Stands start p given s → AllByRecursion HasUtf8 given }
+    ensures reading { (start : ℕ) (text : List ℕ) (tree : Tree) (tokens : List Token)
+        → Reads start text tree tokens → AllByRecursion HasUtf8 tokens }
+    ensures given { (start : ℕ) (p : List ℕ) (given : List Token) (s : LexState)
+        → Stands start p given s → AllByRecursion HasUtf8 given }
 {}
 
-/// Behind one text there is one place for a fault: that of the token which the next byte goes on with
-/// or begins.
+/// Behind one text there is one place for a fault: that of the token which the next byte goes on
+/// with or begins.
 pub fn law_one_place()
-    ensures { (start : ℕ) (p : List ℕ) (at other : ℕ) → PlaceBehind start p at → PlaceBehind start p other → at ≡ other }
+    ensures { (start : ℕ) (p : List ℕ) (at other : ℕ)
+        → PlaceBehind start p at → PlaceBehind start p other → at ≡ other }
 {}
 
 /// A text is readable or has a fault, not both, and its fault is one.
 pub fn law_one_fault()
-    ensures either { (start : ℕ) (text : List ℕ) → ((tree : Tree) × (tokens : List Token) × Reads start text tree tokens) ⊎ ((fault : Fault) × TextFault start text fault) }
-    ensures one { (start : ℕ) (text : List ℕ) (fault other : Fault) → TextFault start text fault → TextFault start text other → fault ≡ other }
-    ensures unread { (start : ℕ) (text : List ℕ) (fault : Fault) (tree : Tree) (tokens : List Token) → TextFault start text fault → Reads start text tree tokens → ⊥ }
+    ensures either { (start : ℕ) (text : List ℕ)
+        → ((tree : Tree) × (tokens : List Token) × Reads start text tree tokens)
+        ⊎ ((fault : Fault) × TextFault start text fault) }
+    ensures one { (start : ℕ) (text : List ℕ) (fault other : Fault)
+        → TextFault start text fault → TextFault start text other → fault ≡ other }
+    ensures unread { (start : ℕ) (text : List ℕ) (fault : Fault) (tree : Tree) (tokens : List Token)
+        → TextFault start text fault → Reads start text tree tokens → ⊥ }
 {}

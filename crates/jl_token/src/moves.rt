@@ -1,7 +1,7 @@
 //! How a text moves on by one byte: a method for each spot.
 //!
-//! What runs for most bytes is marked `inline(always)`, here and in the modules beside: that takes a
-//! quarter of the instructions off, as `jl_lexer_bench` counts them.
+//! What runs for most bytes is marked `inline(always)`, here and in the modules beside: that takes
+//! a quarter of the instructions off, as `jl_lexer_bench` counts them.
 ghost use Rattle.std.specs.Prelude.{◌≡◌, ◌<◌, ◌^◌, [], ◌∷◌, ◌++◌, length, true, None, IfOk};
 ghost use Rattle.jl_token.specs.Machine as machine;
 ghost use Rattle.jl_token.specs.NumberMachine as number;
@@ -83,7 +83,8 @@ impl Reading {
     fn open(&mut self, sign: Sign, spot: Spot, shape: Shape) -> Result<Sign, Halt>
         requires room { self.old.at < 2 ^ 63 }
         requires sign { sign ≡ machine.opening (empty_of shape) }
-        ensures { MovesBy result self.old self.new (machine.opened 256 self.old (machine.opening_token (empty_of shape) self.old.at) spot (empty_of shape)) }
+        ensures { MovesBy result self.old self.new (machine.opened 256 self.old
+            (machine.opening_token (empty_of shape) self.old.at) spot (empty_of shape)) }
     {
         if self.within.len() >= DEPTH {
             return Err(Halt::AtByte(Code::TooDeep));
@@ -150,7 +151,8 @@ impl Reading {
 
     fn close_array(&mut self) -> Result<Sign, Halt>
         requires { self.old.at < 2 ^ 63 }
-        ensures moves { MovesBy result self.old self.new (machine.array_closes self.old self.old.within) }
+        ensures moves { MovesBy result self.old self.new
+            (machine.array_closes self.old self.old.within) }
         ensures plain { IfOk result HasNoText }
     {
         match self.within.close() {
@@ -165,7 +167,8 @@ impl Reading {
 
     fn close_object(&mut self) -> Result<Sign, Halt>
         requires { self.old.at < 2 ^ 63 }
-        ensures moves { MovesBy result self.old self.new (machine.object_closes self.old self.old.within) }
+        ensures moves { MovesBy result self.old self.new
+            (machine.object_closes self.old self.old.within) }
         ensures plain { IfOk result HasNoText }
     {
         match self.within.close() {
@@ -293,7 +296,8 @@ impl Reading {
 
     fn in_number(&mut self, place: InNumber, byte: u8) -> Result<Signs, Halt>
         requires { self.old.at < 2 ^ 63 }
-        ensures moves { Moves result self.old self.new (machine.in_number place self.old byte (machine.kind_of byte)) }
+        ensures moves { Moves result self.old self.new
+            (machine.in_number place self.old byte (machine.kind_of byte)) }
         ensures texts { IfOk result (λ signs. HasOneText signs.number signs.sign) }
     {
         match place.next(byte) {
@@ -355,7 +359,8 @@ impl Reading {
     fn end_key(&mut self, alloc: Global) -> Result<Sign, Halt>
         requires room { self.old.at < 2 ^ 63 }
         requires object { IsInObject self.old.within }
-        ensures { MovesBy result self.old self.new (machine.key_ends true self.old self.old.within) }
+        ensures { MovesBy result self.old self.new
+            (machine.key_ends true self.old self.old.within) }
     {
         if !self.within.add_name(alloc, self.part.bytes())? {
             return Err(Halt::AtToken(Code::DuplicateKey));
@@ -385,7 +390,8 @@ impl Reading {
         requires room { self.old.at < 2 ^ 63 }
         requires formed { FormedAt self.old.spot self.old.within }
         requires spot { machine.number_place self.old.spot ≡ None }
-        ensures { MovesBy result self.old self.new (machine.moved_at true 256 self.old.spot self.old byte) }
+        ensures { MovesBy result self.old self.new
+            (machine.moved_at true 256 self.old.spot self.old byte) }
     {
         match self.spot {
             Spot::InText(place) => self.in_text(place, byte),

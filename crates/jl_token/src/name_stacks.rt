@@ -30,7 +30,8 @@ impl Model for NameStack {
 /// The last name of a buffer, and the lengths and the bytes of those before it.
 #[inline(always)]
 fn split_last<'a>(lens: &'a [usize], bytes: &'a [u8]) -> Option<(&'a [u8], &'a [usize], &'a [u8])>
-    ensures { MatchOption result (cut (reverse lens.now) bytes.now ≡ []) (λ p. cut (reverse lens.now) bytes.now ≡ p.0.now ∷ cut (reverse p.1.now) p.2.now) }
+    ensures { MatchOption result (cut (reverse lens.now) bytes.now ≡ []) (λ p.
+        cut (reverse lens.now) bytes.now ≡ p.0.now ∷ cut (reverse p.1.now) p.2.now) }
 {
     let (len, before) = lens.split_last()?;
     let from = bytes.len().saturating_sub(*len);
@@ -107,7 +108,8 @@ impl NameStack {
 
     /// The name with so many behind it.
     fn nth_last(&self, behind: usize) -> Option<&[u8]>
-        ensures { MatchOption result (drop behind self.now ≡ []) (λ name. (before : List (List ℕ)) × (drop behind self.now ≡ name.now ∷ before)) }
+        ensures { MatchOption result (drop behind self.now ≡ []) (λ name.
+            (before : List (List ℕ)) × (drop behind self.now ≡ name.now ∷ before)) }
     {
         let mut lens = self.lens.as_slice();
         let mut bytes = self.bytes.as_slice();

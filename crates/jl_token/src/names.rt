@@ -26,7 +26,8 @@ impl Model for Names {
 
     ghost view = { λ names. map (λ text. text.items) names.texts.keys };
 
-    ghost invariant = { λ names. names.len ≡ min (names_len (map (λ text. text.items) names.texts.keys)) (2 ^ 64 - 1) };
+    ghost invariant = { λ names.
+        names.len ≡ min (names_len (map (λ text. text.items) names.texts.keys)) (2 ^ 64 - 1) };
 }
 
 impl Names {
@@ -42,7 +43,8 @@ impl Names {
 
     /// Adds a name, unless it is among them, and says whether it was new.
     pub fn add(&mut self, name: Vec<u8>) -> Result<bool, NoMemory>
-        ensures added { IfOk result (λ added. added ≡ not (list_any (bytes_eq name.items) self.old)) }
+        ensures added { IfOk result (λ added.
+            added ≡ not (list_any (bytes_eq name.items) self.old)) }
         ensures names { OnOk result (self.new ≡ with_name self.old name.items) }
         ensures err { OnErr result (self.new ≡ self.old) }
     {

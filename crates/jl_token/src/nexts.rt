@@ -15,9 +15,12 @@ impl LexState {
         requires goes_on { self.old.stopped ≡ None }
         requires formed { IsFormedReading self.old.reading }
         requires room { self.old.reading.at < 2 ^ 40 }
-        ensures moves { IfOk result (λ signs. machine.moved true 256 self.old.reading byte ≡ Ok (told signs self.old.reading.at self.new.reading, self.new.reading)) }
+        ensures moves { IfOk result (λ signs.
+            machine.moved true 256 self.old.reading byte
+            ≡ Ok (told signs self.old.reading.at self.new.reading, self.new.reading)) }
         ensures texts { IfOk result (λ signs. HasOneText signs.number signs.sign) }
-        ensures stops { IfErr result (λ stop. (self.new.stopped ≡ Some stop) × Stops self.old byte stop) }
+        ensures stops { IfErr result (λ stop.
+            (self.new.stopped ≡ Some stop) × Stops self.old byte stop) }
         ensures formed { OnOk result (IsFormedReading self.new.reading) }
         ensures place { OnOk result (self.new.reading.at ≡ self.old.reading.at + 1) }
         ensures goes_on { OnOk result (self.new.stopped ≡ None) }
@@ -40,7 +43,8 @@ impl LexState {
         ensures bound { CountsWithin result (length bytes.now) }
         ensures places { self.old.reading.at + read_len result (length bytes.now) ≤ 2 ^ 40 }
         ensures formed { IsFormed self.new }
-        ensures place { goes_on result ≡ true → self.new.reading.at ≡ self.old.reading.at + read_len result (length bytes.now) }
+        ensures place { goes_on result ≡ true
+            → self.new.reading.at ≡ self.old.reading.at + read_len result (length bytes.now) }
         ensures goes_on { goes_on result ≡ true → self.new.stopped ≡ None }
         ensures stops { goes_on result ≡ false → IsSome self.new.stopped }
         ensures ended { self.new.ended ≡ self.old.ended }

@@ -111,8 +111,8 @@ impl Opens {
         }
     }
 
-    /// Adds a name to those of the innermost object, unless it is among them, and says whether it was
-    /// new.
+    /// Adds a name to those of the innermost object, unless it is among them, and says whether it
+    /// was new.
     #[inline(always)]
     pub(crate) fn add_name(&mut self, alloc: Global, name: &[u8]) -> Result<bool, NoMemory>
         requires { IsInObject self.old }
@@ -123,7 +123,8 @@ impl Opens {
 
     /// What the innermost one is.
     pub fn innermost(&self) -> Option<Shape>
-        ensures { MatchOption result (self.now ≡ []) (λ shape. (below : List Open) × HasShape self.now shape below) }
+        ensures { MatchOption result (self.now ≡ []) (λ shape.
+            (below : List Open) × HasShape self.now shape below) }
     {
         shape_of_last(self.list.as_slice())
     }
@@ -162,7 +163,9 @@ impl Opens {
 /// What the last one is.
 #[inline(always)]
 fn shape_of_last(list: &[Within]) -> Option<Shape>
-    ensures { (names : List (List ℕ)) → MatchOption result (opens_of (reverse list.now) names ≡ []) (λ shape. (below : List Open) × HasShape (opens_of (reverse list.now) names) shape below) }
+    ensures { (names : List (List ℕ))
+        → MatchOption result (opens_of (reverse list.now) names ≡ []) (λ shape.
+        (below : List Open) × HasShape (opens_of (reverse list.now) names) shape below) }
 {
     let (last, _) = list.split_last()?;
     match last {
@@ -183,7 +186,9 @@ fn add_to_last(
 ) -> Result<bool, NoMemory>
     requires object { IsInObject (opens_of (reverse list.old.items) names.old) }
     requires counted { AreCounted (reverse list.old.items) names.old }
-    ensures added { IfOk result (λ added. AddsName (opens_of (reverse list.old.items) names.old) (opens_of (reverse list.new.items) names.new) name.now added) }
+    ensures added { IfOk result (λ added.
+        AddsName (opens_of (reverse list.old.items) names.old)
+        (opens_of (reverse list.new.items) names.new) name.now added) }
     ensures counted { AreCounted (reverse list.new.items) names.new }
 {
     match list.last_mut() {

@@ -112,7 +112,8 @@ impl Reading {
     /// A number that ended before the byte, and the token of the byte.
     fn take_number(&mut self, alloc: Global, sign: Sign, at: u64) -> Step
         requires { HasNoText sign }
-        ensures tokens { tokens_of result ≡ told (record { number = true; sign = sign }) at self.old }
+        ensures tokens { tokens_of result
+            ≡ told (record { number = true; sign = sign }) at self.old }
         ensures rest { self.new ≡ taken self.old }
     {
         let second = self.plain_token(sign, at);
@@ -162,7 +163,8 @@ impl Reading {
     pub(crate) fn finish(&mut self, alloc: Global) -> Result<Option<Token>, LexStop>
         ensures ends { Finishes result self.old }
         ensures number { IfOk result (λ token. IfSome token IsNumberToken) }
-        ensures rest { (self.new.at ≡ self.old.at) × (self.new.spot ≡ self.old.spot) × (self.new.within ≡ self.old.within) }
+        ensures rest { (self.new.at ≡ self.old.at) × (self.new.spot ≡ self.old.spot)
+            × (self.new.within ≡ self.old.within) }
     {
         let fault = Fault {
             code: Code::Truncated,

@@ -53,7 +53,8 @@ impl Reading {
         requires room { self.old.at + length bytes.now < 2 ^ 63 }
         requires plain { runs.is_plain_spot self.old.spot ≡ true }
         ensures bound { IfOk result (λ count. count ≤ length bytes.now) }
-        ensures passes { IfOk result (λ count. runs.Passes self.old self.new (take count bytes.now)) }
+        ensures passes { IfOk result (λ count.
+            runs.Passes self.old self.new (take count bytes.now)) }
         ensures place { IfOk result (λ count. self.new.at ≡ self.old.at + count) }
         ensures spot { OnOk result (self.new.spot ≡ self.old.spot) }
         ensures within { OnOk result (self.new.within ≡ self.old.within) }
@@ -65,8 +66,8 @@ impl Reading {
         Ok(count)
     }
 
-    /// Moves on over the first of these bytes that are blanks. Where the first one is none, which is
-    /// so before most tokens, nothing is counted.
+    /// Moves on over the first of these bytes that are blanks. Where the first one is none, which
+    /// is so before most tokens, nothing is counted.
     #[inline(always)]
     fn skip_blanks(&mut self, bytes: &[u8]) -> usize
         requires room { self.old.at + length bytes.now < 2 ^ 63 }
@@ -90,7 +91,8 @@ impl Reading {
     pub(crate) fn skip(&mut self, bytes: &[u8]) -> Result<usize, NoMemory>
         requires room { self.old.at + length bytes.now < 2 ^ 63 }
         ensures bound { IfOk result (λ count. count ≤ length bytes.now) }
-        ensures passes { IfOk result (λ count. runs.Passes self.old self.new (take count bytes.now)) }
+        ensures passes { IfOk result (λ count.
+            runs.Passes self.old self.new (take count bytes.now)) }
         ensures place { IfOk result (λ count. self.new.at ≡ self.old.at + count) }
         ensures spot { OnOk result (self.new.spot ≡ self.old.spot) }
         ensures within { OnOk result (self.new.within ≡ self.old.within) }

@@ -50,7 +50,8 @@ impl Signs {
     #[inline(always)]
     pub fn is_silent(self) -> bool
         ensures silent { result ≡ true → (at : ℕ) (reading : Reading) → told self at reading ≡ [] }
-        ensures told { result ≡ false → (at : ℕ) (reading : Reading) → told self at reading ≡ [] → ⊥ }
+        ensures told { result ≡ false
+            → (at : ℕ) (reading : Reading) → told self at reading ≡ [] → ⊥ }
     {
         match self.sign {
             Sign::Nothing => !self.number,

@@ -141,7 +141,8 @@ fn in_tail(part: &mut Text, byte: u8, later: u8, low: u8, high: u8) -> Result<St
 }
 
 fn in_escape(part: &mut Text, byte: u8) -> Result<StringStep, NoMemory>
-    ensures { IfOk result (DoesString part.old part.new (machine.escape_did byte (strings.short_escape byte))) }
+    ensures { IfOk result (DoesString part.old part.new
+        (machine.escape_did byte (strings.short_escape byte))) }
 {
     match short_escape(byte) {
         Some(meant) => {
@@ -174,7 +175,8 @@ fn in_value(part: &mut Text, value: u32) -> Result<StringStep, NoMemory>
 fn in_hex(part: &mut Text, byte: u8, later: u8, value: u32) -> Result<StringStep, NoMemory>
     requires formed { machine.HexFormed later value }
     requires below { value < 4096 }
-    ensures { IfOk result (DoesString part.old part.new (machine.hex_did later value (strings.hex_value byte))) }
+    ensures { IfOk result (DoesString part.old part.new
+        (machine.hex_did later value (strings.hex_value byte))) }
 {
     let Some(digit) = hex_value(byte) else {
         return Ok(StringStep::Bad);
@@ -202,7 +204,8 @@ fn in_low(
     requires high { strings.IsHigh high }
     requires formed { machine.LowFormed later value }
     requires below { value < 4096 }
-    ensures { IfOk result (DoesString part.old part.new (machine.low_did later high value (strings.hex_value byte))) }
+    ensures { IfOk result (DoesString part.old part.new
+        (machine.low_did later high value (strings.hex_value byte))) }
 {
     let Some(digit) = hex_value(byte) else {
         return Ok(StringStep::Bad);

@@ -32,8 +32,11 @@ fn add_to_few(
     name: &[u8],
 ) -> Result<bool, NoMemory>
     requires { count.old < 16 }
-    ensures ok { IfOk result (λ added. Adds (withins.Few count.old len.old) (withins.Few count.new len.new) names.old names.new name.now added) }
-    ensures counted { StaysCounted (withins.Few count.old len.old) (withins.Few count.new len.new) names.old names.new }
+    ensures ok { IfOk result (λ added.
+        Adds (withins.Few count.old len.old) (withins.Few count.new len.new)
+        names.old names.new name.now added) }
+    ensures counted { StaysCounted (withins.Few count.old len.old) (withins.Few count.new len.new)
+        names.old names.new }
 {
     if names.is_among(*count, name) {
         return Ok(false);
@@ -52,8 +55,10 @@ fn widen(
     count: usize,
     name: &[u8],
 ) -> Result<(Names, bool), NoMemory>
-    ensures set { IfOk result (λ wide. wide.0 ≡ with_name (set_of (take count names.old)) name.now) }
-    ensures added { IfOk result (λ wide. wide.1 ≡ not (list_any (bytes_eq name.now) (set_of (take count names.old)))) }
+    ensures set { IfOk result (λ wide.
+        wide.0 ≡ with_name (set_of (take count names.old)) name.now) }
+    ensures added { IfOk result (λ wide.
+        wide.1 ≡ not (list_any (bytes_eq name.now) (set_of (take count names.old)))) }
     ensures names { OnOk result (names.new ≡ drop count names.old) }
     ensures err { OnErr result (names.new ≡ names.old) }
 {
@@ -83,7 +88,8 @@ impl Within {
         name: &[u8],
     ) -> Result<bool, NoMemory>
         requires { IsObject self.old }
-        ensures ok { IfOk result (λ added. Adds self.old self.new names.old names.new name.now added) }
+        ensures ok { IfOk result (λ added.
+            Adds self.old self.new names.old names.new name.now added) }
         ensures counted { StaysCounted self.old self.new names.old names.new }
     {
         match self {
