@@ -56,7 +56,8 @@ impl LexState {
                 return Next::Stopped { count: count + 1 };
             };
             count += run;
-            if count == bytes.len() {
+            // Where nothing was skipped, a byte is left: the loop has asked.
+            if run > 0 && count == bytes.len() {
                 return Next::Nothing;
             }
             match self.take_byte(alloc, bytes[count]) {
