@@ -1,3 +1,4 @@
 pub mod Zeros
 pub mod Magnitudes
 pub mod ByKind
+pub mod ByTerm

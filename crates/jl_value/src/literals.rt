@@ -62,7 +62,8 @@ fn boolean_text(value: bool) -> &'static [u8]
     if value { b"true" } else { b"false" }
 }
 
-fn string(
+/// The literal of a string, as `literal_of` has it: a string gives no code.
+pub fn string(
     alloc: Global,
     text: &[u8],
     datatype: Option<&[u8]>,
