@@ -7,7 +7,9 @@ ghost use Rattle.jl_context.specs.Compacts.{compact_in};
 /// A prefix, and what follows its colon.
 #[derive(Clone, Copy)]
 pub struct Compact<'a> {
+    /// The bytes before the first colon.
     pub prefix: &'a [u8],
+    /// The bytes after it.
     pub rest: &'a [u8],
 }
 

@@ -21,5 +21,6 @@ mod terms;
 #[cfg(test)]
 mod tests;
 
+pub use compacts::{Compact, compact_of};
 pub use contexts::Context;
 pub use expansions::{expand_iri, expand_text};
