@@ -1,5 +1,5 @@
 -- What the definition of a term says of a scalar, read once, for private clauses.
-use Rattle.std.specs.Prelude.{◌≡◌, true, false, List, Option, Some, None, codes, bytes_eq}
+use Rattle.std.specs.Prelude.{true, false, Option, Some, None, codes, bytes_eq}
 use Rattle.jl_model.specs.declared.scalars.Scalar.TheVariants.{Str}
 use Rattle.jl_defs.specs.Texts.{Text}
 use Rattle.jl_defs.specs.Context.{TermDef, Context}

@@ -1,4 +1,4 @@
-use Rattle.std.proofs.Common.{◌≡◌, ap, ◌∙◌, option_map}
+use Rattle.std.proofs.Common.{ap, ◌∙◌, option_map}
 use Rattle.jl_defs.specs.TermDefs.{term_of}
 use Rattle.jl_defs.specs.Values as spec
 use Rattle.jl_value.specs.Answers.{value_under}

@@ -1,4 +1,4 @@
-use Rattle.std.proofs.Common.{◌≡◌, ap, sym, ◌∙◌, Some, None, option_map}
+use Rattle.std.proofs.Common.{ap, sym, ◌∙◌, Some, None, option_map}
 use Rattle.std.specs.Option.{option_copied}
 use Rattle.jl_defs.specs.TermDefs.{term_of}
 use Rattle.jl_defs.specs.Values as spec
