@@ -10,6 +10,7 @@ pub mod Subtags
 pub mod LastByte
 pub mod Datatypes
 pub mod JsonLists
+pub mod SameBlocks
 pub mod SameStrings
 pub mod UsualBlocks
 pub mod UsualTexts

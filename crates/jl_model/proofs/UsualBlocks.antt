@@ -77,7 +77,7 @@ no_marks x small =
     same_is _ _ (subst (λ y. agrees y ≡ true) place here)
 
 -- a mask of one bit more
-one_more : (b : Bool) (m : ℕ) → eqb (cond b 1 0 + 2 * m) 0 ≡ (not b && eqb m 0)
+pub one_more : (b : Bool) (m : ℕ) → eqb (cond b 1 0 + 2 * m) 0 ≡ (not b && eqb m 0)
 one_more false zero = refl
 one_more false (suc m) = ne_eqb (0 + 2 * suc m) 0 (λ e. omega arith) ∙ sym (ne_eqb (suc m) 0 (λ e. omega arith))
 one_more true m = ne_eqb (1 + 2 * m) 0 (λ e. omega arith)

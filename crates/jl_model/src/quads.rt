@@ -6,6 +6,7 @@ ghost use Rattle.jl_model.specs.Parts.{IsNode, IsLit, IsObject, IsGraph, IsLangu
 ghost use Rattle.jl_model.specs.Parts.{MaySet, Sets, plain};
 ghost use Rattle.jl_model.specs.Parts.{with_subject, with_predicate, with_object, with_graph};
 
+use super::same_bytes::is_same;
 use super::terms::{Lit, Term};
 use super::text_tests::{is_iri, is_kept_label, is_language_tag};
 use super::texts::{NoMemory, Text};
@@ -108,7 +109,7 @@ impl Quad {
         ensures { MaySet result (IsIri predicate.now)
             (with_predicate self.old predicate.now) self.old self.new }
     {
-        if self.predicate.bytes() == predicate {
+        if is_same(self.predicate.bytes(), predicate) {
             return Ok(true);
         }
         if !is_iri(predicate) {
@@ -225,7 +226,7 @@ fn is_datatype(datatype: &[u8]) -> bool
 fn is_xsd_string(datatype: &[u8]) -> bool
     ensures { IsTrue result ↔ datatype.now ≡ xsd_string }
 {
-    datatype == b"http://www.w3.org/2001/XMLSchema#string".as_slice()
+    is_same(datatype, b"http://www.w3.org/2001/XMLSchema#string")
 }
 
 fn is_language(datatype: &[u8], language: &Option<Text>) -> bool
@@ -235,7 +236,7 @@ fn is_language(datatype: &[u8], language: &Option<Text>) -> bool
         None => true,
         Some(tag) => {
             is_language_tag(tag.bytes())
-                && datatype == b"http://www.w3.org/1999/02/22-rdf-syntax-ns#langString".as_slice()
+                && is_same(datatype, b"http://www.w3.org/1999/02/22-rdf-syntax-ns#langString")
         }
     }
 }

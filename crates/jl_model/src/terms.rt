@@ -1,7 +1,8 @@
 //! RDF terms.
-ghost use Rattle.std.specs.Prelude.{◌≡◌, IfOk, OnOk, OnErr, IsTrue};
+ghost use Rattle.std.specs.Prelude.{◌≡◌, ◌↔◌, IfOk, OnOk, OnErr, IsTrue};
 ghost use Rattle.jl_model.specs.Parts.{plain};
 
+use super::same_bytes::is_same;
 use super::texts::{NoMemory, Text};
 use std::alloc::Global;
 
@@ -37,11 +38,11 @@ impl Lit {
     }
 
     /// Whether it is the literal of a string.
-    fn is_plain(&self) -> bool
-        ensures { IsTrue result → self.now ≡ plain self.now.text }
+    pub fn is_plain(&self) -> bool
+        ensures { IsTrue result ↔ self.now ≡ plain self.now.text }
     {
         self.language.is_none()
-            && self.datatype.bytes() == b"http://www.w3.org/2001/XMLSchema#string".as_slice()
+            && is_same(self.datatype.bytes(), b"http://www.w3.org/2001/XMLSchema#string")
     }
 
     /// An equal literal with memory of its own.
@@ -140,7 +141,7 @@ impl Term {
         ensures { IsTrue result → self.now ≡ Term.Iri iri.now }
     {
         match self {
-            Term::Iri(text) => text.bytes() == iri,
+            Term::Iri(text) => is_same(text.bytes(), iri),
             _ => false,
         }
     }
@@ -149,7 +150,7 @@ impl Term {
         ensures { IsTrue result → self.now ≡ Term.Blank label.now }
     {
         match self {
-            Term::Blank(text) => text.bytes() == label,
+            Term::Blank(text) => is_same(text.bytes(), label),
             _ => false,
         }
     }

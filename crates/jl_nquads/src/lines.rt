@@ -11,7 +11,7 @@ ghost use Rattle.jl_io.specs.Puts.{PutsFront};
 
 use super::escapes::{has_no_escape, run_len};
 use jl_io::{ByteOut, Failed, put_all};
-use jl_model::{Quad, Term, Text};
+use jl_model::{Quad, Term, Text, is_same};
 
 /// Puts the line of the quad. After a failure a proper front of the line has been put.
 pub fn write_line<B: ByteOut>(quad: &Quad, out: &mut B) -> Result<(), Failed>
@@ -283,5 +283,5 @@ fn put_escape<B: ByteOut>(byte: u8, out: &mut B) -> Result<(), Failed>
 fn is_xsd_string(datatype: &[u8]) -> bool
     ensures { result ≡ bytes_eq datatype.now xsd_string }
 {
-    datatype == b"http://www.w3.org/2001/XMLSchema#string".as_slice()
+    is_same(datatype, b"http://www.w3.org/2001/XMLSchema#string")
 }

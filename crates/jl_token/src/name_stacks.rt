@@ -5,7 +5,7 @@ ghost use Rattle.std.specs.Str.{bytes_eq};
 ghost use Rattle.jl_token.specs.NameStacks.{cut, set_of};
 
 use crate::names::Names;
-use jl_model::NoMemory;
+use jl_model::{NoMemory, is_same};
 use std::alloc::Global;
 use std::marker::Model;
 
@@ -96,7 +96,7 @@ impl NameStack {
             let Some((last, lens_before, bytes_before)) = split_last(lens, bytes) else {
                 return false;
             };
-            if name == last {
+            if is_same(name, last) {
                 return true;
             }
             lens = lens_before;
