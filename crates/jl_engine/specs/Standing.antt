@@ -108,7 +108,7 @@ pub data Refusal (s : Settings) (bytes : List ℕ) (f : Fault) : Type 0 where
   by_fault : IsFaulty s bytes f → Refusal s bytes f
   by_form : IsNotBuilt s bytes f → Refusal s bytes f
 
--- why the bytes stop the engine; the out and want of memory have their causes elsewhere
+-- why the bytes stop the engine; the out and running out of memory have their causes elsewhere
 abbrev pub Cause : Settings → List ℕ → Stop → Type 0
 Cause s bytes (stops.Refused f) = Refusal s bytes f
 Cause s bytes stops.OutFault = Unit {0}

@@ -360,7 +360,7 @@ impl LeadPart {
     }
 }
 
-/// One container deeper. A count that doesn't fit is want of memory: each container takes some.
+/// One container deeper. A count that doesn't fit is out of memory: each container takes some.
 fn deeper(depth: u64) -> Result<u64, NoMemory>
     ensures { IfOk result (λ deeper. deeper ≡ suc depth) }
 {

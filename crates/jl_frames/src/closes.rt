@@ -93,7 +93,7 @@ impl StackState {
     }
 
     /// The quad that links the innermost object to the one round it. Its name moves into the quad,
-    /// unless memory is wanting.
+    /// unless memory runs out.
     #[inline(always)]
     #[tactic(auto, using(crate::proofs::Hanging::hang_on_none))]
     fn hang_node(&mut self, alloc: Global, spare: &mut Spare) -> Result<Emits, NoMemory>

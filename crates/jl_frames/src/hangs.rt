@@ -30,7 +30,7 @@ impl Node {
     }
 
     /// The quad with the object at this place, of the property whose value is open. The object
-    /// moves into the quad, unless memory is wanting.
+    /// moves into the quad, unless memory runs out.
     #[inline(always)]
     pub(crate) fn hang_from(
         &self,
@@ -48,7 +48,7 @@ impl Node {
     }
 
     /// The quad with this predicate and the object at this place. The object moves into the quad,
-    /// unless memory is wanting.
+    /// unless memory runs out.
     #[inline(always)]
     #[tactic(auto, using(crate::proofs::Hanging::hang_none, crate::proofs::Hanging::hang_nobody, crate::proofs::Hanging::hang_left_out, crate::proofs::Hanging::hang_main, crate::proofs::Hanging::hang_named))]
     pub(crate) fn say(

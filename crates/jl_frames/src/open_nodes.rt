@@ -48,7 +48,7 @@ impl OpenNode {
     }
 
     /// The quad that links the node to the object round it. Its name moves into the quad, unless
-    /// memory is wanting.
+    /// memory runs out.
     #[inline(always)]
     pub(crate) fn hang_on(
         &mut self,

@@ -61,7 +61,7 @@ impl Opens {
         *self.list.allocator()
     }
 
-    /// Opens a container inside the others. After want of memory it is handed back.
+    /// Opens a container inside the others. Once out of memory it is handed back.
     pub fn push(&mut self, container: Open) -> Result<(), Open>
         ensures ok { OnOk result (self.new ≡ container ∷ self.old) }
         ensures err { IfErr result (λ back. (back ≡ container) × (self.new ≡ self.old)) }

@@ -16,7 +16,7 @@ pub fn write_string(alloc: Global, text: &[u8]) -> Result<Text, NoMemory>
     Text::from_bytes(alloc, quoted.as_slice())
 }
 
-/// The same, as `serde_json` gives it, which fails only for want of memory.
+/// The same, as `serde_json` gives it, which fails only when out of memory.
 fn quoted(alloc: Global, text: &[u8]) -> Result<Vec<u8>, NoMemory>
     requires { IsUtf8 text.now }
     ensures { IfOk result (λ made. made.items ≡ string_text text.now) }

@@ -49,6 +49,7 @@ pub same_block : (a b : List ℕ) → length a ≡ 16 → length b ≡ 16 →
 same_block a b la lb = (there, back) where
   there : IsTrue (eqb (mask_l (map (top 7) (zip2 (λ x y. cond (differ x y) 255 0) a b)) % 2 ^ 64) 0) → a ≡ b
   there h = no_marks a b (la ∙ sym lb) (ap (λ n. eqb n 0) (sym (mask a b la lb)) ∙ h)
+
   back : a ≡ b → IsTrue (eqb (mask_l (map (top 7) (zip2 (λ x y. cond (differ x y) 255 0) a b)) % 2 ^ 64) 0)
   back e = ap (λ n. eqb n 0) (mask a b la lb) ∙ ap (λ z. eqb (mask_l (zip2 differ a z)) 0) (sym e) ∙ alike a
 

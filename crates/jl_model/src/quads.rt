@@ -236,7 +236,10 @@ fn is_language(datatype: &[u8], language: &Option<Text>) -> bool
         None => true,
         Some(tag) => {
             is_language_tag(tag.bytes())
-                && is_same(datatype, b"http://www.w3.org/1999/02/22-rdf-syntax-ns#langString")
+                && is_same(
+                    datatype,
+                    b"http://www.w3.org/1999/02/22-rdf-syntax-ns#langString",
+                )
         }
     }
 }

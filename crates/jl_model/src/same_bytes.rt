@@ -26,13 +26,19 @@ fn are_same_blocks(one: &[u8], other: &[u8]) -> bool
 {
     let mut at = 0;
     while one.len() - at > 16 {
-        if !is_same_block(u8x16::from_slice(&one[at..]), u8x16::from_slice(&other[at..])) {
+        if !is_same_block(
+            u8x16::from_slice(&one[at..]),
+            u8x16::from_slice(&other[at..]),
+        ) {
             return false;
         }
         at += 16;
     }
     let last = one.len() - 16;
-    is_same_block(u8x16::from_slice(&one[last..]), u8x16::from_slice(&other[last..]))
+    is_same_block(
+        u8x16::from_slice(&one[last..]),
+        u8x16::from_slice(&other[last..]),
+    )
 }
 
 #[inline(always)]

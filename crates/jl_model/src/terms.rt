@@ -42,7 +42,10 @@ impl Lit {
         ensures { IsTrue result ↔ self.now ≡ plain self.now.text }
     {
         self.language.is_none()
-            && is_same(self.datatype.bytes(), b"http://www.w3.org/2001/XMLSchema#string")
+            && is_same(
+                self.datatype.bytes(),
+                b"http://www.w3.org/2001/XMLSchema#string",
+            )
     }
 
     /// An equal literal with memory of its own.

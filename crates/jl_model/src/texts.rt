@@ -1,10 +1,10 @@
-//! Byte strings, and the answer for want of memory.
+//! Byte strings, and the answer when out of memory.
 ghost use Rattle.std.specs.Prelude.{◌≡◌, ◌++◌, [], ◌∷◌, IfOk, OnOk, OnErr, IsTrue, ◌↔◌, ◌≤◌, vec_capacity};
 
 use std::alloc::{AllocError, Global};
 use std::marker::Model;
 
-/// Want of memory. Every call that takes memory may answer it, at any time.
+/// Out of memory. Every call that takes memory may answer it, at any time.
 #[derive(Clone, Copy, Debug, PartialEq, Eq)]
 pub struct NoMemory;
 

@@ -65,7 +65,7 @@ impl Items {
         self.list.as_slice()
     }
 
-    /// Adds an item at the end. After want of memory the list is as before, and the item is gone.
+    /// Adds an item at the end. Once out of memory the list is as before, and the item is gone.
     pub fn push(&mut self, item: Json) -> Result<(), NoMemory>
         ensures ok { OnOk result (items_of self.new ≡ items_of self.old ++ item ∷ []) }
         ensures err { OnErr result (self.new ≡ self.old) }
@@ -94,7 +94,7 @@ impl Members {
         self.list.as_slice()
     }
 
-    /// Adds a member at the end. After want of memory the list is as before, and the member is
+    /// Adds a member at the end. Once out of memory the list is as before, and the member is
     /// gone.
     pub fn push(&mut self, member: Member) -> Result<(), NoMemory>
         ensures ok { OnOk result (members_of self.new ≡ members_of self.old ++ member ∷ []) }

@@ -63,7 +63,7 @@ impl PreludeMembers {
         self.list.as_slice()
     }
 
-    /// Adds a member at the end. After want of memory the list is as before, and the member is gone.
+    /// Adds a member at the end. Once out of memory the list is as before, and the member is gone.
     pub fn push(&mut self, member: PreludeMember) -> Result<(), NoMemory>
         ensures ok { OnOk result (self.new ≡ self.old ++ member ∷ []) }
         ensures err { OnErr result (self.new ≡ self.old) }

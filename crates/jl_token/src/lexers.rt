@@ -199,7 +199,7 @@ impl Lexer {
     /// string, and says how many.
     ///
     /// It takes none outside of strings, inside a character or an escape, and after an error. They
-    /// complete no token. After want of memory each call answers that.
+    /// complete no token. Once out of memory each call answers that.
     pub fn run(&mut self, bytes: &[u8]) -> Result<usize, NoMemory>
         requires live { self.old.ended ≡ false }
         ensures count { IfOk result (λ count. count ≡ run_len self.old bytes.now) }

@@ -63,7 +63,7 @@ impl Tree {
         &self.state
     }
 
-    /// Whether this token may come next: with those read it begins a tree. After want of memory any
+    /// Whether this token may come next: with those read it begins a tree. Once out of memory any
     /// may come, which is answered by that again.
     pub fn may_take(&self, token: &Token) -> bool
         ensures { IsTrue result ↔ CanTake self.now token.now }
@@ -78,7 +78,7 @@ impl Tree {
         matches!(&self.state.growth, Growth::Whole(_))
     }
 
-    /// Takes the next token, which with those before it begins a tree. After want of memory each
+    /// Takes the next token, which with those before it begins a tree. Once out of memory each
     /// call answers that again.
     pub fn push(&mut self, alloc: Global, token: Token) -> Result<(), NoMemory>
         requires { CanTake self.old token }

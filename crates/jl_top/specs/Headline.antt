@@ -54,7 +54,7 @@ AnswersTooLong s report taken left_old left_new put = report.status ≡ 8 → Ta
 abbrev pub Accepts : Settings → List ℕ → Type 0
 Accepts s bytes = (t : Tree) × ReadsAs bytes t × AcceptsTree s t × IsWithinStage s t
 
--- an accepted document that isn't too long is read, unless a call of the port fails or memory is wanting
+-- an accepted document that isn't too long is read, unless a call of the port fails or there is no more memory
 abbrev pub IsComplete : Settings → Report → Option (List ℕ) → ℕ → ℕ → ℕ → ℕ → Type 0
 IsComplete s report left takes_old takes_new puts_old puts_new =
     (bytes : List ℕ) → left ≡ Some bytes → Accepts s bytes → length bytes ≤ 2 ^ 40 → (Rose takes_old takes_new → ⊥) → (Rose puts_old puts_new → ⊥) → (report.status ≡ 0) ⊎ (report.status ≡ 5)

@@ -35,7 +35,7 @@ impl Predicates {
         Ok(made)
     }
 
-    /// Adds a predicate as the last one. After want of memory they are as before.
+    /// Adds a predicate as the last one. Once out of memory they are as before.
     pub(crate) fn add(&mut self, predicate: Text) -> Result<(), NoMemory>
         ensures ok { OnOk result (self.new ≡ predicate ∷ self.old) }
         ensures err { OnErr result (self.new ≡ self.old) }

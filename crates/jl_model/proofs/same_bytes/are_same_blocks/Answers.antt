@@ -9,6 +9,7 @@ loop-at-preserved c =
 
 pub returns : goal.returns
 returns c =
-    let from = length c.args.one.now - 16 in
-    ( (λ same. last_block c.args.one.now c.args.other.now c.loop-at.at c.loop-at.invariant.0 c.requires.lengths c.loop-at.invariant.1 c.loop-at-test.false c.requires.long (c.is_same_block-2.ensures.0 same))
-    , (λ e. c.is_same_block-2.ensures.1 (ap (chunk from 16) e)) )
+    let from = length c.args.one.now - 16 in (
+      (λ same. last_block c.args.one.now c.args.other.now c.loop-at.at c.loop-at.invariant.0 c.requires.lengths c.loop-at.invariant.1 c.loop-at-test.false c.requires.long (c.is_same_block-2.ensures.0 same)),
+      (λ e. c.is_same_block-2.ensures.1 (ap (chunk from 16) e)),
+    )
