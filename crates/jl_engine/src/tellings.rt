@@ -26,7 +26,7 @@ pub fn tell_key(
         (spec.takes_key (context_of context.now) leading at name.now stack.old)
         quads.new stack.new }
 {
-    match Text::from_bytes(alloc, name) {
+    match stack.text_of(alloc, name) {
         Ok(name) => read_key(alloc, context, leading, at, name, stack, quads),
         Err(NoMemory) => Err(FrameStop::NoMemory),
     }

@@ -24,7 +24,7 @@ impl StackState {
             return self.close_object(alloc, spare);
         }
         self.opens.drop_innermost();
-        self.complete();
+        self.complete(spare);
         Ok(Emits::none())
     }
 
@@ -35,7 +35,7 @@ impl StackState {
     {
         match self.ended(alloc)? {
             Ended::Nothing => {
-                self.leave();
+                self.leave(spare);
                 Ok(Emits::none())
             }
             Ended::Node => self.close_node(alloc, spare),
@@ -56,16 +56,16 @@ impl StackState {
     }
 
     /// The object closes, and the one round it is the innermost again.
-    fn leave(&mut self)
+    fn leave(&mut self, spare: &mut Spare)
         requires live { IsLive self.old }
         ensures { (o : Option SpecNode) (k : List SpecOpen) → self.old.opens ≡ Open.Object o ∷ k
             → self.new ≡ spec.complete o k }
     {
-        self.pop_object();
-        self.complete();
+        self.pop_object(spare);
+        self.complete(spare);
     }
 
-    fn pop_object(&mut self)
+    fn pop_object(&mut self, spare: &mut Spare)
         ensures state { (o : Option SpecNode) (k : List SpecOpen)
             → self.old.opens ≡ Open.Object o ∷ k
             → self.new ≡ record self.old { node = o; opens = k } }
@@ -73,7 +73,8 @@ impl StackState {
         ensures ample { self.new.short ≡ self.old.short }
     {
         if let Some(open) = self.opens.pop() {
-            self.node = open.into_node();
+            let closed = std::mem::replace(&mut self.node, open.into_node());
+            spare.keep_node(closed);
         }
     }
 
@@ -88,7 +89,7 @@ impl StackState {
         ensures kept { OnErr result (self.new ≡ self.old) }
     {
         let emits = self.hang_node(alloc, spare)?;
-        self.leave_kept();
+        self.leave_kept(spare);
         Ok(emits)
     }
 
@@ -125,7 +126,7 @@ impl StackState {
         ensures kept { OnErr result (self.new ≡ self.old) }
     {
         let emits = self.hang_literal(alloc, spare, lit)?;
-        self.leave_kept();
+        self.leave_kept(spare);
         Ok(emits)
     }
 
@@ -145,13 +146,13 @@ impl StackState {
     }
 
     /// The object closes, and has given something to the property round it.
-    fn leave_kept(&mut self)
+    fn leave_kept(&mut self, spare: &mut Spare)
         requires live { IsLive self.old }
         ensures { (o : Option SpecNode) (k : List SpecOpen) → self.old.opens ≡ Open.Object o ∷ k
             → self.new ≡ spec.complete (spec.all_holding o) k }
     {
-        self.pop_object();
+        self.pop_object(spare);
         self.hold();
-        self.complete();
+        self.complete(spare);
     }
 }

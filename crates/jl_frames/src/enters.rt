@@ -9,14 +9,14 @@ use super::emits::Emits;
 use super::facts::Frame;
 use super::keywords::Keyword;
 use super::nodes::{Node, Pending, wrong_form};
-use super::open_nodes::OpenNode;
 use super::opens::Open;
 use super::roles::Role;
+use super::spares::Spare;
 use super::states::{FrameStop, StackState};
 
 impl StackState {
     /// A container opens.
-    pub(crate) fn on_enter(&mut self, frame: Frame) -> Result<Emits, FrameStop>
+    pub(crate) fn on_enter(&mut self, spare: &mut Spare, frame: Frame) -> Result<Emits, FrameStop>
         requires live { IsLive self.old }
         ensures { Goes result (spec.on_enter frame self.old.node self.old.opens) self.old self.new }
     {
@@ -30,17 +30,17 @@ impl StackState {
                 Pending::Nothing | Pending::Ignored => return self.open_dropped(),
             }
         }
-        self.on_frame(frame)
+        self.on_frame(spare, frame)
     }
 
     #[inline(always)]
-    fn on_frame(&mut self, frame: Frame) -> Result<Emits, FrameStop>
+    fn on_frame(&mut self, spare: &mut Spare, frame: Frame) -> Result<Emits, FrameStop>
         requires live { IsLive self.old }
         ensures { Opens result
             (spec.on_frame frame.role frame self.old.node self.old.opens) self.old self.new }
     {
         match frame.role {
-            Role::Object => self.open_object(frame),
+            Role::Object => self.open_object(spare, frame),
             Role::Set => self.open_array(),
             _ => self.open_dropped(),
         }
@@ -58,13 +58,13 @@ impl StackState {
         }
     }
 
-    fn open_object(&mut self, frame: Frame) -> Result<Emits, FrameStop>
+    fn open_object(&mut self, spare: &mut Spare, frame: Frame) -> Result<Emits, FrameStop>
         requires live { IsLive self.old }
         ensures { Opens result
             (spec.quiet (Some (opened frame)) (Open.Object self.old.node ∷ self.old.opens))
             self.old self.new }
     {
-        let Ok(node) = OpenNode::new(self.opens.allocator(), Node::opened(frame)) else {
+        let Ok(node) = spare.node(self.opens.allocator(), Node::opened(frame)) else {
             return Err(FrameStop::NoMemory);
         };
         match self.opens.push(Open::Object(self.node.take())) {

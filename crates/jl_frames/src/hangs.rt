@@ -175,7 +175,7 @@ fn quad_of_text(
     ensures { IfOk result (λ quads. quads ≡ spec.quad_with subject.now predicate.now
         (Some (terms.Literal (plain text.now))) (option_copied graph.entry)) }
 {
-    match spare.ready(alloc, subject, predicate, graph)? {
+    match spare.ready_for_text(alloc, subject, predicate, graph)? {
         None => Ok(Emits::none()),
         Some(room) => with_text(alloc, spare, room, text),
     }

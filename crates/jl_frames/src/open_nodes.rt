@@ -39,6 +39,16 @@ impl OpenNode {
         }
     }
 
+    /// The same place, which keeps this.
+    #[inline(always)]
+    pub fn refilled(self, node: Node) -> OpenNode
+        ensures { result ≡ node }
+    {
+        let mut place = self.place;
+        *place = node;
+        OpenNode { place }
+    }
+
     /// What it keeps, lent.
     #[inline(always)]
     pub fn node(&self) -> &Node
@@ -121,9 +131,10 @@ impl OpenNode {
 
     /// The value of the key read last has ended.
     #[inline(always)]
-    pub fn rest(&mut self)
+    pub(crate) fn rest(&mut self, spare: &mut Spare)
         ensures { self.new ≡ spec.rested self.old }
     {
-        self.place.pending = Pending::Nothing;
+        let key = std::mem::replace(&mut self.place.pending, Pending::Nothing);
+        spare.keep_key(key);
     }
 }

@@ -49,6 +49,14 @@ impl Room {
         Box::into_inner(self.place)
     }
 
+    /// Whether its object is the literal of a string.
+    pub fn has_text(&self) -> bool {
+        match self.place.object() {
+            Term::Literal(lit) => lit.is_plain(),
+            _ => false,
+        }
+    }
+
     /// Sets the object, where it is well-formed, and tells whether it is.
     pub fn set_object(&mut self, object: Term) -> bool
         ensures { Sets result (IsObject object) (with_object self.old object) self.old self.new }

@@ -11,6 +11,7 @@ use super::opens::Opens;
 use super::reads::ReadAs;
 use super::spares::Spare;
 use super::states::{FrameStop, StackState};
+use jl_model::{NoMemory, Text};
 use std::alloc::Global;
 use std::marker::Model;
 
@@ -45,7 +46,7 @@ impl Stack {
                 stopped: None,
                 short: false,
             },
-            spare: Spare::none(),
+            spare: Spare::none(alloc),
         }
     }
 
@@ -54,10 +55,8 @@ impl Stack {
     pub fn from_state(state: StackState) -> Option<Stack>
         ensures { result ≡ Some state }
     {
-        Some(Stack {
-            state,
-            spare: Spare::none(),
-        })
+        let spare = Spare::none(state.opens.allocator());
+        Some(Stack { state, spare })
     }
 
     /// All that it keeps.
@@ -87,7 +86,7 @@ impl Stack {
         if let Some(stop) = self.state.again() {
             return Err(stop);
         }
-        let entered = self.state.on_enter(frame);
+        let entered = self.state.on_enter(&mut self.spare, frame);
         self.state.told(entered)
     }
 
@@ -138,6 +137,15 @@ impl Stack {
         }
         let given = self.state.on_text(alloc, &mut self.spare, at, text);
         self.state.told(given)
+    }
+
+    /// A text of these bytes, in the memory of a key that has ended, where there is one.
+    #[inline(always)]
+    pub fn text_of(&mut self, alloc: Global, bytes: &[u8]) -> Result<Text, NoMemory>
+        ensures text { IfOk result (λ text. text ≡ bytes.now) }
+        ensures same { self.new ≡ self.old }
+    {
+        self.spare.text(alloc, bytes)
     }
 
     /// Takes back the quads of a fact once they have been put: their memory serves again.

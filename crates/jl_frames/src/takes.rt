@@ -44,7 +44,7 @@ impl StackState {
             return Ok(Emits::none());
         }
         let emits = self.take_scalar(alloc, spare, fact)?;
-        self.complete();
+        self.complete(spare);
         Ok(emits)
     }
 
@@ -80,7 +80,7 @@ impl StackState {
             return Ok(Emits::none());
         }
         let emits = self.take_text(alloc, spare, at, text)?;
-        self.complete();
+        self.complete(spare);
         Ok(emits)
     }
 
@@ -102,20 +102,20 @@ impl StackState {
     }
 
     /// A value has ended.
-    pub(crate) fn complete(&mut self)
+    pub(crate) fn complete(&mut self, spare: &mut Spare)
         requires live { IsLive self.old }
         ensures { self.new ≡ spec.complete self.old.node self.old.opens }
     {
         if self.opens.is_in_object() {
-            self.rest();
+            self.rest(spare);
         }
     }
 
-    fn rest(&mut self)
+    fn rest(&mut self, spare: &mut Spare)
         ensures { self.new ≡ record self.old { node = spec.all_rested self.old.node } }
     {
         if let Some(node) = &mut self.node {
-            node.rest();
+            node.rest(spare);
         }
     }
 }
