@@ -1,5 +1,5 @@
 -- What readings bring, in parts.
-use Rattle.std.proofs.Common.{◌≡◌, true, List, [], ◌∷◌, ◌++◌, Result, Ok, Err, refl, sym, ap, ◌∙◌, append_assoc, append-nil}
+use Rattle.std.proofs.Common.{◌≡◌, true, List, [], ◌∷◌, ◌++◌, Result, Ok, Err, refl, sym, subst, ap, ◌∙◌, append_assoc, append-nil}
 use Rattle.jl_model.specs.Parts.{Parts}
 use Rattle.jl_model.specs.declared.faults.Fault.{Fault}
 use Rattle.jl_defs.specs.Context.{Context}
@@ -58,3 +58,27 @@ pub replay_nothing : (c : Context) (es : List Event) (quads : List Parts) (r : R
 unfolding replay
 replay_nothing c [] quads r e = ap (λ q. Ok (q, r)) (append-nil quads)
 replay_nothing c (x ∷ es) quads r e = absurd cc
+
+pub before_none : (read : Read) → read ≡ before [] read
+before_none (Ok (quads, r)) = refl
+before_none (Err f) = refl
+
+then_both : (read : Read) (all next last : Reader → Read) → ((r : Reader) → all r ≡ then_reads (next r) last) → then_reads read all ≡ then_reads (then_reads read next) last
+then_both (Ok (quads, r)) all next last e = ap (before quads) (e r) ∙ before_then quads (next r) last
+then_both (Err f) all next last e = refl
+
+replay_both : (c : Context) (es fs : List Event) (r : Reader) → replay c (es ++ fs) r ≡ then_reads (replay c es r) (replay c fs)
+unfolding replay
+replay_both c [] fs r = before_none (replay c fs r)
+replay_both c (e ∷ es) fs r = then_both (at_step c true e r) (replay c (es ++ fs)) (replay c es) (replay c fs) (replay_both c es fs)
+
+pub run_more : (c : Context) (es fs : List Event) (quads more : List Parts) (r next : Reader) → before quads (replay c es r) ≡ Ok (more, next) → before quads (replay c (es ++ fs) r) ≡ before more (replay c fs next)
+run_more c es fs quads more r next h = ap (before quads) (replay_both c es fs r) ∙ before_then quads (replay c es r) (replay c fs) ∙ ap (λ t. then_reads t (replay c fs)) h
+
+pub run_stops : (c : Context) (es fs : List Event) (r : Reader) (why : FrameStop) → HasCause why (replay c es r) → HasCause why (replay c (es ++ fs) r)
+run_stops c es fs r why h = subst (HasCause why) (sym (replay_both c es fs r)) (stops_first why (replay c es r) (replay c fs) h)
+
+-- a call reads what is left
+pub reads_on : (result : Result (Unit {0}) FrameStop) (old mid new : List Parts) (all rest : Read) (r : Reader) → before old all ≡ before mid rest → Reads result mid rest new r → Reads result old all new r
+reads_on (Ok done) old mid new all rest r same e = same ∙ e
+reads_on (Err why) old mid new all rest r same e = stops_after why old all rest mid same e

@@ -1,6 +1,5 @@
 -- What is said for some tokens, and how much of it is put.
-use Rattle.std.proofs.Common.{◌≡◌, ℕ, Bool, List, [], ◌++◌, take, drop, inl, inr, Result, Ok, Err, refl, sym, ap, ◌∙◌, subst, append_assoc, append-nil}
-use Rattle.std.proofs.lemmas.List.{take-append-drop}
+use Rattle.std.proofs.Common.{◌≡◌, Bool, List, [], ◌++◌, inl, inr, Result, Ok, Err, refl, sym, ap, ◌∙◌, subst, append_assoc}
 use Rattle.jl_model.specs.Parts.{Parts}
 use Rattle.jl_model.specs.declared.tokens.Token.{Token}
 use Rattle.jl_frames.specs.Answers.{HasCause}
@@ -17,15 +16,12 @@ use Rattle.jl_engine.specs.declared.readers.Reader.{Reader}
 use Rattle.jl_engine.specs.declared.stops.Stop.{Stop}
 use Rattle.jl_engine.specs.declared.stops.Stop.TheVariants.{Refused, OutFault, NoMemory}
 use Rattle.jl_engine.proofs.Feeding.{put-none, put-both}
+use Rattle.jl_engine.proofs.Readings.{before_none}
 
 -- ---- no quads come before what is read
 
-before_none : (read : Read) → before [] read ≡ read
-before_none (Ok (quads, r)) = refl
-before_none (Err f) = refl
-
 none_before : (none : List Parts) (read : Read) → none ≡ [] → before none read ≡ read
-none_before none read empty = ap (λ q. before q read) empty ∙ before_none read
+none_before none read empty = ap (λ q. before q read) empty ∙ sym (before_none read)
 
 -- ---- stops
 
@@ -39,16 +35,6 @@ outside_stops OutFault read h = tt
 outside_stops NoMemory read h = tt
 
 -- ---- quads
-
-pub some_of : (told now later : List Parts → Type 0) (selects mid : Parts → Bool) (quads : List Parts) (n : ℕ) → ((p : Parts) → mid p ≡ selects p)
-    → WerePut told now selects (take n quads) → WerePut now later mid [] → PutSome told later selects quads
-some_of told now later selects mid quads n same a b =
-    record {
-      front = take n quads;
-      back = drop n quads;
-      quads_are = sym (take-append-drop n quads);
-      put = subst (WerePut told later selects) (append-nil (take n quads)) (put-both told now later selects mid (take n quads) [] same a b);
-    }
 
 some_then : (told now later : List Parts → Type 0) (selects mid : Parts → Bool) (all xs ys : List Parts) → all ≡ xs ++ ys → ((p : Parts) → mid p ≡ selects p) → WerePut told now selects xs → PutSome now later mid ys → PutSome told later selects all
 some_then told now later selects mid all xs ys is same a b =
@@ -66,6 +52,22 @@ put_then (Ok x) tells selects out between later all xs ys is same a b =
     subst (WerePut (tells out) (tells later) (selects out)) (sym is) (put-both (tells out) (tells between) (tells later) (selects out) (selects between) xs ys same a b)
 put_then (Err stop) tells selects out between later all xs ys is same a b =
     (some_then (tells out) (tells between) (tells later) (selects out) (selects between) all xs ys is same a b.0, b.1)
+
+-- whatever comes of the rest, put from here, comes of all
+abbrev pub GoesOn : {Out : Type 0} → (Out → List Parts → Type 0) → (Out → Parts → Bool) → Out → Out → List Parts → List Parts → Type 0
+GoesOn {Out} tells selects start mid all rest = (r : Result (Unit {0}) Stop) (later : Out) → Puts r rest tells selects mid later → Puts r all tells selects start later
+
+pub goes_on : {Out : Type 0} (tells : Out → List Parts → Type 0) (selects : Out → Parts → Bool) (start mid next : Out) (all rest xs ys : List Parts) → GoesOn tells selects start mid all rest → rest ≡ xs ++ ys →
+    ((p : Parts) → selects next p ≡ selects mid p) → WerePut (tells mid) (tells next) (selects mid) xs → GoesOn tells selects start next all ys
+goes_on tells selects start mid next all rest xs ys g is same a = λ r later p. g r later (put_then r tells selects mid next later rest xs ys is same a p)
+
+pub stops_on : {Out : Type 0} (tells : Out → List Parts → Type 0) (selects : Out → Parts → Bool) (start mid later : Out) (all rest xs ys : List Parts) (why : Stop) → GoesOn tells selects start mid all rest → rest ≡ xs ++ ys →
+    Puts (Err why) xs tells selects mid later → Puts (Err why) all tells selects start later
+stops_on tells selects start mid later all rest xs ys why g is p =
+    g (Err why) later (record { front = p.0.front; back = p.0.back ++ ys; quads_are = is ∙ ap (λ x. x ++ ys) p.0.quads_are ∙ append_assoc p.0.front p.0.back ys; put = p.0.put }, p.1)
+
+pub ends_on : {Out : Type 0} (tells : Out → List Parts → Type 0) (selects : Out → Parts → Bool) (start mid : Out) (all rest : List Parts) → GoesOn tells selects start mid all rest → rest ≡ [] → Puts (Ok tt) all tells selects start mid
+ends_on tells selects start mid all rest g e = g (Ok tt) mid (subst (WerePut (tells mid) (tells mid) (selects mid)) (sym e) (put-none (tells mid) (tells mid) (selects mid) (λ all t. t)))
 
 -- ---- what was said
 

@@ -1,7 +1,7 @@
 //! What tokens tell, and how it is held.
-ghost use Rattle.std.specs.Prelude.{◌≡◌, [], ◌∷◌, ◌++◌, OnOk};
+ghost use Rattle.std.specs.Prelude.{◌≡◌, [], ◌∷◌, ◌++◌, OnOk, OnErr, IfOk};
 ghost use Rattle.jl_engine.specs.Leads.{is_empty};
-ghost use Rattle.jl_engine.specs.Marks.{event_by, event_lent, marked, scalar_lent};
+ghost use Rattle.jl_engine.specs.Marks.{all_of, event_by, event_lent, marked, scalar_lent};
 ghost use Rattle.jl_engine.specs.declared.events.Event.TheVariants as events;
 
 use crate::lents::{Lent, LentScalar};
@@ -21,52 +21,146 @@ pub enum Event {
     Value { at: u64, scalar: Scalar },
 }
 
-/// Events, which contracts see as a list. They are held as a mark for each, and their texts one
-/// after another.
+/// How many bytes the texts of a run have at most, but for a text that alone has more.
+const RUN_BYTES: usize = 65_536;
+
+/// How many events a run has at most.
+const RUN_EVENTS: usize = 2_048;
+
+/// A run of events, which contracts see as a list: a mark for each, and their texts one after
+/// another.
 #[derive(Debug, Drop)]
-pub struct Events {
+pub struct Run {
     marks: Vec<Mark>,
     bytes: Vec<u8>,
 }
 
-impl Model for Events {
+impl Model for Run {
     ghost use Rattle.std.specs.Prelude.{◌≡◌, List, length};
-    ghost use Rattle.jl_engine.specs.Marks.{marked, text_len};
+    ghost use Rattle.jl_engine.specs.Marks.{len_of, marked, text_len};
     ghost use Rattle.jl_engine.specs.declared.events.Event.{Event};
 
     ghost Value = { List Event };
 
-    ghost view = { λ events. marked events.marks.items events.bytes.items };
+    ghost view = { λ run. marked run.marks.items run.bytes.items };
 
-    ghost invariant = { λ events. text_len events.marks.items ≡ length events.bytes.items };
+    ghost invariant = { λ run. text_len len_of run.marks.items ≡ length run.bytes.items };
 }
 
-impl Events {
+impl Run {
     /// No events. It takes no memory.
-    pub fn empty(alloc: Global) -> Events
+    pub fn empty(alloc: Global) -> Run
         ensures { result ≡ [] }
     {
-        Events {
+        Run {
             marks: Vec::new(alloc),
             bytes: Vec::new(alloc),
         }
     }
 
+    /// No events, with room for the texts of a whole run.
+    fn wide(alloc: Global) -> Result<Run, NoMemory>
+        ensures { IfOk result (λ run. run ≡ []) }
+    {
+        let bytes = Vec::with_capacity(alloc, RUN_BYTES)?;
+        Ok(Run {
+            marks: Vec::new(alloc),
+            bytes,
+        })
+    }
+
     /// Whether there are none.
     #[tactic(auto, using(crate::proofs::HeldMarks::empty_marked))]
     #[inline(always)]
-    pub fn is_empty(&self) -> bool
+    fn is_empty(&self) -> bool
         ensures { result ≡ is_empty self.now }
     {
         self.marks.is_empty()
     }
 
+    /// Whether an event with a text of so many bytes shall stand in this run.
+    #[inline(always)]
+    fn has_room(&self, len: usize) -> bool {
+        self.marks.len() < RUN_EVENTS && len <= RUN_BYTES.saturating_sub(self.bytes.len())
+    }
+
     /// Takes all events out, and keeps the room.
-    pub fn clear(&mut self)
+    fn clear(&mut self)
         ensures { self.new ≡ [] }
     {
         self.marks.clear();
         self.bytes.clear();
+    }
+
+    /// Adds the event of this kind.
+    #[tactic(auto, using(crate::proofs::HeldMarks::marked_with, crate::proofs::HeldMarks::text_len_more))]
+    fn put(&mut self, kind: MarkKind, at: u64, text: &[u8]) -> Result<(), NoMemory>
+        ensures ok { OnOk result (self.new ≡ self.old ++ event_by kind at text.now ∷ []) }
+        ensures err { OnErr result (self.new ≡ self.old) }
+    {
+        let before = self.bytes.len();
+        let Some(mark) = Mark::new(kind, at, text.len() as u64) else {
+            return Err(NoMemory);
+        };
+        match self.bytes.extend_from_slice(text) {
+            Ok(()) => match self.marks.push(mark) {
+                Ok(()) => Ok(()),
+                Err(_) => {
+                    self.bytes.truncate(before);
+                    Err(NoMemory)
+                }
+            },
+            Err(_) => Err(NoMemory),
+        }
+    }
+
+    /// Their marks, and their texts one after another.
+    pub fn parts(&self) -> (&[Mark], &[u8])
+        ensures { self.now ≡ marked result.0.now result.1.now }
+    {
+        (self.marks.as_slice(), self.bytes.as_slice())
+    }
+}
+
+/// Events, which contracts see as a list. Those of most objects stand in one run. Many stand in
+/// several, so that each run can be given back once its events were told.
+#[derive(Debug, Drop)]
+pub struct Events {
+    full: Vec<Run>,
+    last: Run,
+}
+
+impl Model for Events {
+    ghost use Rattle.std.specs.Prelude.{◌≡◌, [], ◌++◌, List};
+    ghost use Rattle.jl_engine.specs.Marks.{all_of};
+    ghost use Rattle.jl_engine.specs.declared.events.Event.{Event};
+
+    ghost Value = { List Event };
+
+    ghost view = { λ events. all_of events.full.items ++ events.last };
+
+    ghost invariant = { λ events. events.last ≡ [] → events.full.items ≡ [] };
+}
+
+impl Events {
+    /// No events, with the room of a run. It takes no memory.
+    pub fn in_room(alloc: Global, mut room: Run) -> Events
+        ensures { result ≡ [] }
+    {
+        room.clear();
+        Events {
+            full: Vec::new(alloc),
+            last: room,
+        }
+    }
+
+    /// Whether there are none.
+    #[tactic(auto, using(crate::proofs::HeldMarks::empty_joined))]
+    #[inline(always)]
+    pub fn is_empty(&self) -> bool
+        ensures { result ≡ is_empty self.now }
+    {
+        self.last.is_empty()
     }
 
     /// Adds an event after the others.
@@ -96,30 +190,33 @@ impl Events {
     }
 
     /// Adds the event of this kind.
-    #[tactic(auto, using(crate::proofs::HeldMarks::marked_with, crate::proofs::HeldMarks::text_len_more))]
     fn put(&mut self, kind: MarkKind, at: u64, text: &[u8]) -> Result<(), NoMemory>
         ensures { OnOk result (self.new ≡ self.old ++ event_by kind at text.now ∷ []) }
     {
-        let before = self.bytes.len();
-        let Some(mark) = Mark::new(kind, at, text.len() as u64) else {
-            return Err(NoMemory);
-        };
-        match self.bytes.extend_from_slice(text) {
-            Ok(()) => match self.marks.push(mark) {
-                Ok(()) => Ok(()),
-                Err(_) => {
-                    self.bytes.truncate(before);
-                    Err(NoMemory)
-                }
-            },
+        if self.last.has_room(text.len()) {
+            return self.last.put(kind, at, text);
+        }
+        self.put_in_next(kind, at, text)
+    }
+
+    /// The same, in a run that begins with it.
+    #[inline(never)]
+    fn put_in_next(&mut self, kind: MarkKind, at: u64, text: &[u8]) -> Result<(), NoMemory>
+        ensures { OnOk result (self.new ≡ self.old ++ event_by kind at text.now ∷ []) }
+    {
+        let mut next = Run::wide(*self.full.allocator())?;
+        next.put(kind, at, text)?;
+        let full = std::mem::replace(&mut self.last, next);
+        match self.full.push(full) {
+            Ok(()) => Ok(()),
             Err(_) => Err(NoMemory),
         }
     }
 
-    /// Their marks, and their texts one after another.
-    pub fn parts(&self) -> (&[Mark], &[u8])
-        ensures { self.now ≡ marked result.0.now result.1.now }
+    /// The runs that are full, and the last one.
+    pub fn into_runs(self) -> (Vec<Run>, Run)
+        ensures { self ≡ all_of result.0.items ++ result.1 }
     {
-        (self.marks.as_slice(), self.bytes.as_slice())
+        (self.full, self.last)
     }
 }

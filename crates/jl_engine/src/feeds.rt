@@ -133,7 +133,7 @@ impl EngineState {
     {
         match self.tell_signs(alloc, signs, at, quads) {
             Err(stop) => Err(Stop::of_reader(stop)),
-            Ok(()) => put_all(quads, out),
+            Ok(()) => put_all(alloc, quads, out),
         }
     }
 
@@ -356,7 +356,7 @@ impl EngineState {
     {
         match self.tell_token(alloc, token, quads) {
             Err(last) => Err(Stop::of_reader(last)),
-            Ok(()) => put_all(quads, out),
+            Ok(()) => put_all(alloc, quads, out),
         }
     }
 }

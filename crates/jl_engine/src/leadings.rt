@@ -5,7 +5,7 @@ ghost use Rattle.jl_engine.specs.Leads.{Answers, admits, begun};
 ghost use Rattle.jl_engine.specs.Marks.{event_lent};
 ghost use Rattle.jl_engine.specs.Reading.{held_with};
 
-use crate::events::Events;
+use crate::events::{Events, Run};
 use crate::leads::{Admit, Lead};
 use crate::lents::Lent;
 use jl_context::Context;
@@ -18,7 +18,7 @@ use std::marker::Model;
 pub struct Leading {
     lead: Option<Lead>,
     /// Room for the events of the next object.
-    spare: Events,
+    spare: Run,
 }
 
 impl Model for Leading {
@@ -37,7 +37,7 @@ impl Leading {
     {
         Leading {
             lead: None,
-            spare: Events::empty(alloc),
+            spare: Run::empty(alloc),
         }
     }
 
@@ -53,9 +53,8 @@ impl Leading {
     pub fn begin(&mut self, alloc: Global, at: u64)
         ensures { self.new ≡ Some (begun at) }
     {
-        let mut held = std::mem::replace(&mut self.spare, Events::empty(alloc));
-        held.clear();
-        self.lead = Some(Lead::begun(held, at));
+        let room = std::mem::replace(&mut self.spare, Run::empty(alloc));
+        self.lead = Some(Lead::begun(Events::in_room(alloc, room), at));
     }
 
     /// What the event does in the object, which notes what the event shows.
@@ -98,7 +97,7 @@ impl Leading {
     }
 
     /// Keeps room for the events of the next object.
-    pub fn keep(&mut self, room: Events)
+    pub fn keep(&mut self, room: Run)
         ensures { self.new ≡ self.old }
     {
         self.spare = room;

@@ -23,7 +23,7 @@ mod tellings;
 mod tests;
 
 pub use engines::{Engine, EngineState};
-pub use events::{Event, Events};
+pub use events::{Event, Events, Run};
 pub use laws::law_sure;
 pub use leadings::Leading;
 pub use leads::{Admit, Lead, LeadPart, LeadSpot};

@@ -1,14 +1,14 @@
 //! Events inside an object that is held, and those that decide it.
-ghost use Rattle.std.specs.Prelude.{◌≡◌, IfOk, IfSome, IsSome};
+ghost use Rattle.std.specs.Prelude.{◌≡◌, ◌++◌, IfOk, IfSome, IsSome};
 ghost use Rattle.jl_context.specs.Contexts.{context_of};
 ghost use Rattle.jl_frames.specs.Machine as frames;
 ghost use Rattle.jl_engine.specs.Leads.{decides, frame_by};
-ghost use Rattle.jl_engine.specs.Marks.{event_lent, marked};
+ghost use Rattle.jl_engine.specs.Marks.{all_of, event_lent, marked};
 ghost use Rattle.jl_engine.specs.Moves.{Moves};
 ghost use Rattle.jl_engine.specs.Reading as spec;
 ghost use Rattle.jl_engine.specs.Reading.{Reads};
 
-use crate::events::Events;
+use crate::events::{Events, Run};
 use crate::leads::{Admit, Lead};
 use crate::lents::Lent;
 use crate::marks::{Mark, text_and_rest};
@@ -114,7 +114,7 @@ impl Reader {
         }
     }
 
-    /// What was held is told. Its room serves the next object.
+    /// What was held is told. The room of its last run serves the next object.
     fn tell_held(
         &mut self,
         alloc: Global,
@@ -125,10 +125,46 @@ impl Reader {
         ensures { Reads result quads.old
             (spec.replay (context_of context.now) held self.old) quads.new self.new }
     {
-        let (marks, bytes) = held.parts();
-        let answer = self.replay(alloc, context, marks, bytes, quads);
-        self.lead.keep(held);
+        let (full, last) = held.into_runs();
+        let answer = self.tell_runs(alloc, context, full, &last, quads);
+        self.lead.keep(last);
         answer
+    }
+
+    /// Runs are told. Each but the last is given back at once: its memory serves the quads that it
+    /// brings.
+    fn tell_runs(
+        &mut self,
+        alloc: Global,
+        context: &Context,
+        full: Vec<Run>,
+        last: &Run,
+        quads: &mut Quads,
+    ) -> Result<(), FrameStop>
+        ensures { Reads result quads.old
+            (spec.replay (context_of context.now) (all_of full.items ++ last.now) self.old)
+            quads.new self.new }
+    {
+        for run in full {
+            if let Err(stop) = self.tell_run(alloc, context, &run, quads) {
+                return Err(stop);
+            }
+        }
+        self.tell_run(alloc, context, last, quads)
+    }
+
+    fn tell_run(
+        &mut self,
+        alloc: Global,
+        context: &Context,
+        run: &Run,
+        quads: &mut Quads,
+    ) -> Result<(), FrameStop>
+        ensures { Reads result quads.old
+            (spec.replay (context_of context.now) run.now self.old) quads.new self.new }
+    {
+        let (marks, bytes) = run.parts();
+        self.replay(alloc, context, marks, bytes, quads)
     }
 
     /// Events are told whose texts stand one after another.

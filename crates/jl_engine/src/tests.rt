@@ -334,3 +334,38 @@ fn a_refusal_stays(rt: HostRuntime) -> Result<(), Fail> {
     assert_eq!(rt; out.text.as_str(), "");
     Ok(())
 }
+
+/// A type of its own for each number. One in a thousand is longer than a run of events.
+fn push_type(out: &mut String, number: u64) -> Result<(), AllocError> {
+    write!(out, "http://a/a-type-with-a-name-of-some-length/{number}/")?;
+    if number % 1000 == 999 {
+        for _ in 0..7000 {
+            out.push_str("0123456789")?;
+        }
+    }
+    Ok(())
+}
+
+/// Leading types that are held in several runs, and bring quads of several groups: all of them are
+/// put, in their order.
+#[test]
+fn many_leading_types(rt: HostRuntime) -> Result<(), Fail> {
+    let alloc = rt.alloc();
+    let mut document = String::new(alloc);
+    let mut want = String::new(alloc);
+    document.push_str(r#"{"@id":"http://a/s","@type":["_:b""#)?;
+    want.push_str("<http://a/s> <http://www.w3.org/1999/02/22-rdf-syntax-ns#type> _:b . ")?;
+    for number in 0..4500 {
+        document.push_str(",\"")?;
+        push_type(&mut document, number)?;
+        document.push_str("\"")?;
+        want.push_str("<http://a/s> <http://www.w3.org/1999/02/22-rdf-syntax-ns#type> <")?;
+        push_type(&mut want, number)?;
+        want.push_str("> . ")?;
+    }
+    document.push_str(r#"],"http://a/p":1}"#)?;
+    want.push_str("<http://a/s> <http://a/p> '1'^#integer . ")?;
+    let whole = read(alloc, "", document.as_bytes(), false)?;
+    assert!(rt; whole.as_str() == want.as_str());
+    Ok(())
+}

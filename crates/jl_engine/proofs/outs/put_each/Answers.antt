@@ -1,10 +1,28 @@
-use Rattle.jl_engine.proofs.Saying.{some_of}
+use Rattle.std.proofs.Common.{◌∷◌, [], ◌+◌, ◌∙◌, drop, rules}
+use Rattle.jl_engine.proofs.HeldMarks.{item_more, none_after}
+use Rattle.jl_engine.proofs.Saying.{goes_on, stops_on, ends_on}
 use Rattle.jl_engine.proofs.outs.put_each.Goals as goal
 
 pub returns-in-Err-clause-put : goal.returns-in-Err-clause-put
 returns-in-Err-clause-put g c =
-    let i = c.loop-quad.invariant in (
-      some_of (g.O.QuadOut.tells c.args.out.now) (g.O.QuadOut.tells c.loop-quad.out) (g.O.QuadOut.tells c.put_quad.new.out) (g.O.QuadOut.selects c.args.out.now) (g.O.QuadOut.selects c.loop-quad.out)
-          c.args.quads.now c.loop-quad.quad-index i.selects i.put c.in-Err.ensures.unput,
-      c.in-Err.ensures.stop,
-    )
+    let l = c.loop-quad in
+    stops_on g.O.QuadOut.tells g.O.QuadOut.selects c.args.out.now l.out c.put_quad.new.out c.args.quads.now (drop l.quad-index c.args.quads.now) (c.quad-item.result ∷ []) (drop (l.quad-index + 1) c.args.quads.now) c.in-Err.stop l.invariant.put
+    (item_more c.args.quads.now l.quad-index c.quad-item.result c.loop-quad-test.true c.quad-item.is)
+    c.in-Err.ensures.put
+
+pub loop-quad-preserved : goal.loop-quad-preserved
+loop-quad-preserved g c =
+    let l = c.loop-quad in
+    record {
+      put = goes_on g.O.QuadOut.tells g.O.QuadOut.selects c.args.out.now l.out c.put_quad.new.out c.args.quads.now (drop l.quad-index c.args.quads.now) (c.quad-item.result ∷ []) (drop (l.quad-index + 1) c.args.quads.now) l.invariant.put
+          (item_more c.args.quads.now l.quad-index c.quad-item.result c.loop-quad-test.true c.quad-item.is)
+          c.in_default.ensures.out.test c.in_default.ensures.put;
+      selects = λ q. c.in_default.ensures.out.test q ∙ l.invariant.selects q;
+      counted = search rules;
+      beside = g.met.O.QuadOut.joins c.args.out.now l.out c.put_quad.new.out l.invariant.beside c.in_default.ensures.out.kept;
+    }
+
+pub returns-clause-put : goal.returns-clause-put
+returns-clause-put g c =
+    let l = c.loop-quad in
+    ends_on g.O.QuadOut.tells g.O.QuadOut.selects c.args.out.now l.out c.args.quads.now (drop l.quad-index c.args.quads.now) l.invariant.put (none_after c.args.quads.now l.quad-index c.loop-quad-test.false)

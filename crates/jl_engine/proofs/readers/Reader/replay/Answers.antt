@@ -1,8 +1,8 @@
 use Rattle.jl_context.specs.Contexts.{context_of}
 use Rattle.std.proofs.Common.{◌∙◌, ap, drop, take}
-use Rattle.jl_engine.specs.Marks.{event_lent, marked}
+use Rattle.jl_engine.specs.Marks.{event_at, event_lent, len_of, marked}
 use Rattle.jl_engine.specs.Reading.{replay}
-use Rattle.jl_engine.proofs.HeldMarks.{told_more, told_stops, none_marked}
+use Rattle.jl_engine.proofs.HeldMarks.{told_more, told_stops, none_cut}
 use Rattle.jl_engine.proofs.Readings.{stops_after, replay_nothing}
 use Rattle.jl_engine.proofs.readers.Reader.replay.Goals as goal
 
@@ -22,4 +22,4 @@ loop-mark-preserved c =
 pub returns : goal.returns
 returns c =
     let l = c.loop-mark in
-    l.invariant ∙ replay_nothing (context_of c.args.context.now) (marked (drop l.mark-index c.args.marks.now) l.rest.now) l.quads l.self (none_marked c.args.marks.now l.mark-index l.rest.now c.loop-mark-test.false)
+    l.invariant ∙ replay_nothing (context_of c.args.context.now) (marked (drop l.mark-index c.args.marks.now) l.rest.now) l.quads l.self (none_cut len_of event_at c.args.marks.now l.mark-index l.rest.now c.loop-mark-test.false)
