@@ -6,6 +6,7 @@ ghost use Rattle.jl_defs.specs.Keys.{key_by};
 ghost use Rattle.jl_frames.specs.Nodes as spec;
 ghost use Rattle.jl_frames.specs.Fronts.{keyword_meaning};
 
+use super::spares::Spare;
 use jl_model::{Code, Expanded, Text};
 
 /// A keyword that says something of its own object.
@@ -31,14 +32,18 @@ pub enum Meaning {
 }
 
 impl Meaning {
-    /// What a key that expands to this means.
+    /// What a key that expands to this means. The text of a keyword is kept.
     #[tactic(auto, using(crate::proofs::KeyMeanings::meaning_keyword))]
-    pub fn of(expanded: Expanded) -> Meaning
+    pub fn of(spare: &mut Spare, expanded: Expanded) -> Meaning
         ensures { result ≡ spec.meaning_of (key_by expanded) }
     {
         match expanded {
             Expanded::Null => Meaning::Ignored,
-            Expanded::Keyword(text) => Meaning::of_keyword(text.bytes()),
+            Expanded::Keyword(text) => {
+                let meaning = Meaning::of_keyword(text.bytes());
+                spare.keep_text(text);
+                meaning
+            }
             Expanded::Name(text) => {
                 if has_colon(text.bytes()) {
                     Meaning::Property(text)

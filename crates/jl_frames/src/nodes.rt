@@ -73,10 +73,10 @@ impl Node {
 
     /// Takes a key.
     #[tactic(auto, unfolding(crate::specs::Nodes::take_key))]
-    pub fn take_key(&mut self, key: KeyFact) -> Result<(), Fault>
+    pub(crate) fn take_key(&mut self, spare: &mut Spare, key: KeyFact) -> Result<(), Fault>
         ensures { Takes result (spec.take_key key self.old) self.old self.new }
     {
-        match Meaning::of(key.expanded) {
+        match Meaning::of(spare, key.expanded) {
             Meaning::Property(name) => self.pending = Pending::Property(name),
             Meaning::Ignored => self.pending = Pending::Ignored,
             Meaning::Keyword(keyword) => return self.take_keyword(key.at, keyword),

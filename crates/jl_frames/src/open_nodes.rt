@@ -80,10 +80,10 @@ impl OpenNode {
 
     /// Takes a key.
     #[inline(always)]
-    pub fn take_key(&mut self, key: KeyFact) -> Result<(), Fault>
+    pub(crate) fn take_key(&mut self, spare: &mut Spare, key: KeyFact) -> Result<(), Fault>
         ensures { Takes result (spec.take_key key self.old) self.old self.new }
     {
-        self.place.take_key(key)
+        self.place.take_key(spare, key)
     }
 
     /// Takes a scalar as the value of the key read last, or in an array there.

@@ -38,8 +38,14 @@ impl Spare {
     #[inline(always)]
     pub fn keep_key(&mut self, key: Pending) {
         if let Pending::Property(name) = key {
-            self.name = Some(name);
+            self.keep_text(name);
         }
+    }
+
+    /// Keeps a text, in place of the one before.
+    #[inline(always)]
+    pub fn keep_text(&mut self, text: Text) {
+        self.name = Some(text);
     }
 
     /// A text of these bytes.

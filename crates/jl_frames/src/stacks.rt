@@ -103,7 +103,7 @@ impl Stack {
         if let Some(stop) = self.state.again() {
             return Err(stop);
         }
-        let told = self.state.on_key(key);
+        let told = self.state.on_key(&mut self.spare, key);
         self.state.told(told)
     }
 

@@ -12,7 +12,7 @@ use std::alloc::Global;
 
 impl StackState {
     /// A key of the innermost object.
-    pub(crate) fn on_key(&mut self, key: KeyFact) -> Result<Emits, FrameStop>
+    pub(crate) fn on_key(&mut self, spare: &mut Spare, key: KeyFact) -> Result<Emits, FrameStop>
         requires live { IsLive self.old }
         ensures goes { Goes result
             (spec.on_key key self.old.node self.old.opens) self.old self.new }
@@ -23,7 +23,7 @@ impl StackState {
         }
         match &mut self.node {
             None => Ok(Emits::none()),
-            Some(node) => match node.take_key(key) {
+            Some(node) => match node.take_key(spare, key) {
                 Ok(()) => Ok(Emits::none()),
                 Err(fault) => Err(FrameStop::Refused(fault)),
             },
