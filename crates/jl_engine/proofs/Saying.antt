@@ -1,12 +1,12 @@
 -- What is said for some tokens, and how much of it is put.
-use Rattle.std.proofs.Common.{◌≡◌, Bool, List, [], ◌++◌, inl, inr, Result, Ok, Err, refl, sym, ap, ◌∙◌, subst, append_assoc}
+use Rattle.std.proofs.Common.{◌≡◌, ℕ, Bool, List, [], ◌++◌, inl, inr, Result, Ok, Err, refl, sym, ap, ◌∙◌, subst, append_assoc}
 use Rattle.jl_model.specs.Parts.{Parts}
 use Rattle.jl_model.specs.declared.tokens.Token.{Token}
 use Rattle.jl_frames.specs.Answers.{HasCause}
 use Rattle.jl_frames.specs.declared.states.FrameStop.{FrameStop}
 use Rattle.jl_frames.specs.declared.states.FrameStop.TheVariants as framing
 use Rattle.jl_engine.specs.Reading.{Read, before}
-use Rattle.jl_engine.specs.Putting.{PutSome, Puts}
+use Rattle.jl_engine.specs.Putting.{Leaves, PutSome, Puts}
 use Rattle.jl_engine.specs.Saying.{brought, Tells, SaysSome, StopsSaying, SaysBy, SaysTo}
 use Rattle.jl_engine.specs.Standing.{WerePut}
 use Rattle.jl_engine.specs.Stops.{IsOutside, of_reader}
@@ -53,20 +53,30 @@ put_then (Ok x) tells selects out between later all xs ys is same a b =
 put_then (Err stop) tells selects out between later all xs ys is same a b =
     (some_then (tells out) (tells between) (tells later) (selects out) (selects between) all xs ys is same a b.0, b.1)
 
--- whatever comes of the rest, put from here, comes of all
-abbrev pub GoesOn : {Out : Type 0} → (Out → List Parts → Type 0) → (Out → Parts → Bool) → Out → Out → List Parts → List Parts → Type 0
-GoesOn {Out} tells selects start mid all rest = (r : Result (Unit {0}) Stop) (later : Out) → Puts r rest tells selects mid later → Puts r all tells selects start later
+-- some quads were put, and whatever comes of the rest comes of all
+pub record Going {Out : Type 0} (tells : Out → List Parts → Type 0) (selects : Out → Parts → Bool) (faults : Out → ℕ) (beside : Out → Out → Type 0) (start mid : Out) (all rest : List Parts) : Type 0 where
+  pub put : (r : Result (Unit {0}) Stop) (later : Out) → Puts r rest tells selects mid later → Puts r all tells selects start later
+  pub test : (q : Parts) → selects mid q ≡ selects start q
+  pub counted : faults mid ≡ faults start
+  pub kept : beside start mid
 
-pub goes_on : {Out : Type 0} (tells : Out → List Parts → Type 0) (selects : Out → Parts → Bool) (start mid next : Out) (all rest xs ys : List Parts) → GoesOn tells selects start mid all rest → rest ≡ xs ++ ys →
-    ((p : Parts) → selects next p ≡ selects mid p) → WerePut (tells mid) (tells next) (selects mid) xs → GoesOn tells selects start next all ys
-goes_on tells selects start mid next all rest xs ys g is same a = λ r later p. g r later (put_then r tells selects mid next later rest xs ys is same a p)
+pub goes_on : {Out : Type 0} (tells : Out → List Parts → Type 0) (selects : Out → Parts → Bool) (faults : Out → ℕ) (beside : Out → Out → Type 0) (start mid next : Out) (all rest xs ys : List Parts) →
+    ((a b c : Out) → beside a b → beside b c → beside a c) → Going tells selects faults beside start mid all rest → rest ≡ xs ++ ys → Puts (Ok tt) xs tells selects mid next → Leaves {T = Unit {0}} (Ok tt) selects faults beside mid next →
+    Going tells selects faults beside start next all ys
+goes_on tells selects faults beside start mid next all rest xs ys joins g is a out =
+    record {
+      put = λ r later p. g.put r later (put_then r tells selects mid next later rest xs ys is out.test a p);
+      test = λ q. out.test q ∙ g.test q;
+      counted = out.cause.others (λ e. absurd cc) ∙ g.counted;
+      kept = joins start mid next g.kept out.kept;
+    }
 
-pub stops_on : {Out : Type 0} (tells : Out → List Parts → Type 0) (selects : Out → Parts → Bool) (start mid later : Out) (all rest xs ys : List Parts) (why : Stop) → GoesOn tells selects start mid all rest → rest ≡ xs ++ ys →
+pub stops_on : {Out : Type 0} (tells : Out → List Parts → Type 0) (selects : Out → Parts → Bool) (start mid later : Out) (all rest xs ys : List Parts) (why : Stop) → ((r : Result (Unit {0}) Stop) (later : Out) → Puts r rest tells selects mid later → Puts r all tells selects start later) → rest ≡ xs ++ ys →
     Puts (Err why) xs tells selects mid later → Puts (Err why) all tells selects start later
 stops_on tells selects start mid later all rest xs ys why g is p =
     g (Err why) later (record { front = p.0.front; back = p.0.back ++ ys; quads_are = is ∙ ap (λ x. x ++ ys) p.0.quads_are ∙ append_assoc p.0.front p.0.back ys; put = p.0.put }, p.1)
 
-pub ends_on : {Out : Type 0} (tells : Out → List Parts → Type 0) (selects : Out → Parts → Bool) (start mid : Out) (all rest : List Parts) → GoesOn tells selects start mid all rest → rest ≡ [] → Puts (Ok tt) all tells selects start mid
+pub ends_on : {Out : Type 0} (tells : Out → List Parts → Type 0) (selects : Out → Parts → Bool) (start mid : Out) (all rest : List Parts) → ((r : Result (Unit {0}) Stop) (later : Out) → Puts r rest tells selects mid later → Puts r all tells selects start later) → rest ≡ [] → Puts (Ok tt) all tells selects start mid
 ends_on tells selects start mid all rest g e = g (Ok tt) mid (subst (WerePut (tells mid) (tells mid) (selects mid)) (sym e) (put-none (tells mid) (tells mid) (selects mid) (λ all t. t)))
 
 -- ---- what was said

@@ -126,13 +126,34 @@ impl Reader {
             (spec.replay (context_of context.now) held self.old) quads.new self.new }
     {
         let (full, last) = held.into_runs();
-        let answer = self.tell_runs(alloc, context, full, &last, quads);
+        let answer = self.tell_in_turn(alloc, context, full, &last, quads);
         self.lead.keep(last);
         answer
     }
 
-    /// Runs are told. Each but the last is given back at once: its memory serves the quads that it
-    /// brings.
+    /// Runs are told. Nearly always there is one alone.
+    #[inline(always)]
+    fn tell_in_turn(
+        &mut self,
+        alloc: Global,
+        context: &Context,
+        full: Vec<Run>,
+        last: &Run,
+        quads: &mut Quads,
+    ) -> Result<(), FrameStop>
+        ensures { Reads result quads.old
+            (spec.replay (context_of context.now) (all_of full.items ++ last.now) self.old)
+            quads.new self.new }
+    {
+        if full.is_empty() {
+            return self.tell_run(alloc, context, last, quads);
+        }
+        self.tell_runs(alloc, context, full, last, quads)
+    }
+
+    /// The same, where there are several. Each but the last is given back at once: its memory
+    /// serves the quads that it brings.
+    #[inline(never)]
     fn tell_runs(
         &mut self,
         alloc: Global,

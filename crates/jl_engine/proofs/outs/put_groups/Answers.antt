@@ -1,4 +1,4 @@
-use Rattle.std.proofs.Common.{◌+◌, ◌∙◌, ap, drop, rules}
+use Rattle.std.proofs.Common.{◌+◌, ap, drop}
 use Rattle.jl_engine.specs.Marks.{all_of}
 use Rattle.jl_engine.proofs.HeldMarks.{item_more, none_after}
 use Rattle.jl_engine.proofs.Saying.{goes_on, stops_on, ends_on}
@@ -14,14 +14,7 @@ returns-in-Err-clause-put g c =
 pub loop-group-preserved : goal.loop-group-preserved
 loop-group-preserved g c =
     let l = c.loop-group in
-    record {
-      put = goes_on g.O.QuadOut.tells g.O.QuadOut.selects c.args.out.now l.out c.put_group.new.out (all_of c.args.groups.now) (all_of (drop l.group-index c.args.groups.now)) c.group-item.result (all_of (drop (l.group-index + 1) c.args.groups.now)) l.invariant.put
-          (ap all_of (item_more c.args.groups.now l.group-index c.group-item.result c.loop-group-test.true c.group-item.is))
-          c.in_default.ensures.out.test c.in_default.ensures.put;
-      selects = λ q. c.in_default.ensures.out.test q ∙ l.invariant.selects q;
-      counted = search rules;
-      beside = g.met.O.QuadOut.joins c.args.out.now l.out c.put_group.new.out l.invariant.beside c.in_default.ensures.out.kept;
-    }
+    goes_on g.O.QuadOut.tells g.O.QuadOut.selects g.O.QuadOut.faults g.O.QuadOut.beside c.args.out.now l.out c.put_group.new.out (all_of c.args.groups.now) (all_of (drop l.group-index c.args.groups.now)) c.group-item.result (all_of (drop (l.group-index + 1) c.args.groups.now)) g.met.O.QuadOut.joins l.invariant (ap all_of (item_more c.args.groups.now l.group-index c.group-item.result c.loop-group-test.true c.group-item.is)) c.in_default.ensures.put c.in_default.ensures.out
 
 pub returns-clause-put : goal.returns-clause-put
 returns-clause-put g c =

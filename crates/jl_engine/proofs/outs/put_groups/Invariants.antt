@@ -1,13 +1,7 @@
-use Rattle.std.proofs.Common.{◌≡◌, drop}
-use Rattle.jl_model.specs.Parts.{Parts}
+use Rattle.std.proofs.Common.{drop}
 use Rattle.jl_engine.specs.Marks.{all_of}
-use Rattle.jl_engine.proofs.Saying.{GoesOn}
+use Rattle.jl_engine.proofs.Saying.{Going}
 use Rattle.jl_engine.proofs.outs.put_groups.Given as goal
 
 abbrev pub invariant-loop-group : goal.invariant-loop-group
-invariant-loop-group g l = record {
-  put : GoesOn g.O.QuadOut.tells g.O.QuadOut.selects l.initial.out l.out (all_of l.groups) (all_of (drop l.group-index l.groups));
-  selects : (q : Parts) → g.O.QuadOut.selects l.out q ≡ g.O.QuadOut.selects l.initial.out q;
-  counted : g.O.QuadOut.faults l.out ≡ g.O.QuadOut.faults l.initial.out;
-  beside : g.O.QuadOut.beside l.initial.out l.out;
-}
+invariant-loop-group g l = Going g.O.QuadOut.tells g.O.QuadOut.selects g.O.QuadOut.faults g.O.QuadOut.beside l.initial.out l.out (all_of l.groups) (all_of (drop l.group-index l.groups))

@@ -1,16 +1,13 @@
 use Rattle.std.proofs.Common.{◌≡◌, drop}
-use Rattle.jl_model.specs.Parts.{Parts, with_object}
+use Rattle.jl_model.specs.Parts.{with_object}
 use Rattle.jl_model.specs.declared.terms.Term.{Term}
 use Rattle.jl_engine.specs.Marks.{HaveObjects, refilled}
-use Rattle.jl_engine.proofs.Saying.{GoesOn}
+use Rattle.jl_engine.proofs.Saying.{Going}
 use Rattle.jl_engine.proofs.outs.put_objects.Given as goal
 
 abbrev pub invariant-loop-size : goal.invariant-loop-size
 invariant-loop-size g l = record {
-  put : GoesOn g.O.QuadOut.tells g.O.QuadOut.selects l.initial.out l.out (refilled l.initial.like l.sizes l.objects) (refilled l.initial.like (drop l.size-index l.sizes) l.rest);
+  going : Going g.O.QuadOut.tells g.O.QuadOut.selects g.O.QuadOut.faults g.O.QuadOut.beside l.initial.out l.out (refilled l.initial.like l.sizes l.objects) (refilled l.initial.like (drop l.size-index l.sizes) l.rest);
   formed : HaveObjects (refilled l.initial.like (drop l.size-index l.sizes) l.rest);
   like : (o : Term) → with_object l.like o ≡ with_object l.initial.like o;
-  selects : (q : Parts) → g.O.QuadOut.selects l.out q ≡ g.O.QuadOut.selects l.initial.out q;
-  counted : g.O.QuadOut.faults l.out ≡ g.O.QuadOut.faults l.initial.out;
-  beside : g.O.QuadOut.beside l.initial.out l.out;
 }
