@@ -1,4 +1,4 @@
-use Rattle.jl_engine.proofs.Saying.{some_of}
+use Rattle.jl_engine.proofs.Feeding.{some_of}
 use Rattle.jl_engine.proofs.outs.put_each.Goals as goal
 
 pub returns-in-Err-clause-put : goal.returns-in-Err-clause-put

@@ -1,4 +1,4 @@
-use Rattle.jl_engine.proofs.Saying.{put_then}
+use Rattle.jl_engine.proofs.Feeding.{put_then}
 use Rattle.jl_engine.proofs.outs.put_some.Goals as goal
 
 pub returns-clause-put : goal.returns-clause-put
