@@ -28,8 +28,7 @@ use Rattle.jl_defs.specs.Due.{due}
 use Rattle.jl_laws.proofs.OpenGoesOn.{goes-on}
 use Rattle.jl_laws.specs.Says.{says, root_spot}
 use Rattle.jl_frames.specs.Formed.{formed}
-use Rattle.jl_frames.proofs.AllFormed.{walk-fine}
-use Rattle.jl_frames.proofs.FormedHangs.{AllFormed, all-kept}
+use Rattle.jl_frames.proofs.AllFormed.{walk-fine, AllFormed, all-kept}
 use Rattle.jl_walk.specs.Due.{open_events, IsPrompt}
 use Rattle.jl_walk.specs.Events.{Event, a_key, a_scalar}
 use Rattle.jl_walk.specs.Feeding.{start}

@@ -31,17 +31,12 @@ word-left at x y q word (f, b, e, p) = (f, b ++ y, ap (λ z. z ++ y) e ∙ (appe
 word-right : (at : ℕ) (x y : List ℕ) (q : ℕ) (word : List ℕ) → WordAt (at + length x) y q word → WordAt at (x ++ y) q word
 word-right at x y q word (f, b, e, p) = (x ++ f, b, ap (λ z. x ++ z) e ∙ sym (append_assoc x f (word ++ b)), omega (arith, p, length-append x f))
 
-located-left : (at : ℕ) (x y : List ℕ) (e : Event) → Located at x e → Located at (x ++ y) e
-located-left at x y (a_scalar q Null) l = word-left at x y q (codes "null") l
-located-left at x y (a_scalar q (boolean true)) l = word-left at x y q (codes "true") l
-located-left at x y (a_scalar q (boolean false)) l = word-left at x y q (codes "false") l
-located-left at x y z l = tt
-
-located-right : (at : ℕ) (x y : List ℕ) (e : Event) → Located (at + length x) y e → Located at (x ++ y) e
-located-right at x y (a_scalar q Null) l = word-right at x y q (codes "null") l
-located-right at x y (a_scalar q (boolean true)) l = word-right at x y q (codes "true") l
-located-right at x y (a_scalar q (boolean false)) l = word-right at x y q (codes "false") l
-located-right at x y z l = tt
+-- where each word goes, each event that has a word goes
+located-as : (at to : ℕ) (t u : List ℕ) → ((q : ℕ) (word : List ℕ) → WordAt at t q word → WordAt to u q word) → (e : Event) → Located at t e → Located to u e
+located-as at to t u go (a_scalar q Null) l = go q (codes "null") l
+located-as at to t u go (a_scalar q (boolean true)) l = go q (codes "true") l
+located-as at to t u go (a_scalar q (boolean false)) l = go q (codes "false") l
+located-as at to t u go z l = tt
 
 -- what stands in a part stands in the whole
 module _ (start : ℕ) (all : List ℕ) where
@@ -49,10 +44,19 @@ module _ (start : ℕ) (all : List ℕ) where
   Fits at t = (e : Event) → Located at t e → Located start all e
 
   front-fits : (A B : Language) (at : ℕ) (us : List Token) (t : List ℕ) → (h : Then A B at us t) → Fits at t → Fits at h.front
-  front-fits A B at us t h f e l = f e (subst (λ z. Located at z e) (sym h.text_is) (located-left at h.front h.back e l))
+  front-fits A B at us t h f e l = f e (subst (λ z. Located at z e) (sym h.text_is) (located-as at at h.front (h.front ++ h.back) (word-left at h.front h.back) e l))
 
   back-fits : (A B : Language) (at : ℕ) (us : List Token) (t : List ℕ) → (h : Then A B at us t) → Fits at t → Fits (at + length h.front) h.back
-  back-fits A B at us t h f e l = f e (subst (λ z. Located at z e) (sym h.text_is) (located-right at h.front h.back e l))
+  back-fits A B at us t h f e l = f e (subst (λ z. Located at z e) (sym h.text_is) (located-as (at + length h.front) at h.back (h.front ++ h.back) (word-right at h.front h.back) e l))
+
+  -- what stands behind the first five of six parts, as the value of a member does
+  five-fits : (A B C D E L : Language) (at : ℕ) (us : List Token) (t : List ℕ) → (h : Then A (Then B (Then C (Then D (Then E L)))) at us t) → Fits at t →
+      Fits (at + length h.front + length h.in_second.front + length h.in_second.in_second.front + length h.in_second.in_second.in_second.front + length h.in_second.in_second.in_second.in_second.front)
+      h.in_second.in_second.in_second.in_second.back
+  five-fits A B C D E L at us t h f =
+      let k = h.in_second in
+      let b = k.in_second in
+      back-fits E L _ _ _ b.in_second.in_second (back-fits D _ _ _ _ b.in_second (back-fits C _ _ _ _ b (back-fits B _ _ _ _ k (back-fits A _ at us t h f))))
 
   word-whole : (at : ℕ) (t word : List ℕ) → t ≡ word → WordAt at t at word
   word-whole at t word e = ([], [], e ∙ sym (append-nil word), omega arith)
@@ -98,35 +102,17 @@ module _ (start : ℕ) (all : List ℕ) where
     members-located : (once : Bool) (room : ℕ) (had : List (List ℕ)) (ms : Members) (at : ℕ) (us : List Token) (t : List ℕ) (more : List Event) → MembersText once room had ms at us t → Fits at t → Are more → Are (members_events ms (closes ∷ more))
     members-located once room had no_member at us t more h f a = (tt, a)
     members-located once room had (member place name v ms) at us t more h f a =
-        let g1 = back-fits _ _ at us t h f in
-        let k = h.in_second in
-        let g2 = back-fits _ _ _ _ _ k g1 in
-        let b = k.in_second in
-        let g3 = back-fits _ _ _ _ _ b g2 in
-        let c = b.in_second in
-        let g4 = back-fits _ _ _ _ _ c g3 in
-        let d = c.in_second in
-        let g5 = back-fits _ _ _ _ _ d g4 in
-        let i = d.in_second in
+        let g5 = five-fits _ _ _ _ _ _ at us t h f in
+        let i = h.in_second.in_second.in_second.in_second.in_second in
         (tt, value-located once room v _ i.front_tokens i.front _ i.in_first (front-fits _ _ _ _ _ i g5) (more-members-located once room (name ∷ had) ms _ i.back_tokens i.back more i.in_second (back-fits _ _ _ _ _ i g5) a))
 
     more-members-located : (once : Bool) (room : ℕ) (had : List (List ℕ)) (ms : Members) (at : ℕ) (us : List Token) (t : List ℕ) (more : List Event) → MoreMembers once room had ms at us t → Fits at t → Are more → Are (members_events ms (closes ∷ more))
     more-members-located once room had no_member at us t more h f a = (tt, a)
     more-members-located once room had (member place name v ms) at us t more h f a =
-        let f1 = back-fits _ _ at us t h f in
         let comma = h.in_second in
-        let f2 = back-fits _ _ _ _ _ comma f1 in
-        let blank = comma.in_second in
-        let g1 = back-fits _ _ _ _ _ blank f2 in
-        let k = blank.in_second in
-        let g2 = back-fits _ _ _ _ _ k g1 in
-        let b = k.in_second in
-        let g3 = back-fits _ _ _ _ _ b g2 in
-        let c = b.in_second in
-        let g4 = back-fits _ _ _ _ _ c g3 in
-        let d = c.in_second in
-        let g5 = back-fits _ _ _ _ _ d g4 in
-        let i = d.in_second in
+        let pair = comma.in_second in
+        let g5 = five-fits _ _ _ _ _ _ _ _ _ pair (back-fits _ _ _ _ _ comma (back-fits _ _ at us t h f)) in
+        let i = pair.in_second.in_second.in_second.in_second.in_second in
         (tt, value-located once room v _ i.front_tokens i.front _ i.in_first (front-fits _ _ _ _ _ i g5) (more-members-located once room (name ∷ had) ms _ i.back_tokens i.back more i.in_second (back-fits _ _ _ _ _ i g5) a))
 
   -- closed parts, and then what is open
@@ -165,16 +151,8 @@ module _ (start : ℕ) (all : List ℕ) where
     members-then once room had no_member (x ∷ ends) Bare L es go bare at us t h f = absurd h
     members-then once room had (member place name v ms) [] Bare L es go bare at us t h f = absurd h
     members-then once room had (member place name v ms) (x ∷ ends) Bare L es go bare at us t h f =
-        let g1 = back-fits _ _ at us t h f in
-        let k = h.in_second in
-        let g2 = back-fits _ _ _ _ _ k g1 in
-        let b = k.in_second in
-        let g3 = back-fits _ _ _ _ _ b g2 in
-        let c = b.in_second in
-        let g4 = back-fits _ _ _ _ _ c g3 in
-        let d = c.in_second in
-        let g5 = back-fits _ _ _ _ _ d g4 in
-        let i = d.in_second in
+        let g5 = five-fits _ _ _ _ _ _ at us t h f in
+        let i = h.in_second.in_second.in_second.in_second.in_second in
         (tt, value-located once room v _ i.front_tokens i.front _ i.in_first (front-fits _ _ _ _ _ i g5) (more-members-then once room (name ∷ had) ms ends Bare L es go bare _ i.back_tokens i.back i.in_second.1.1 (back-fits _ _ _ _ _ i g5)))
 
     more-members-then : (once : Bool) (room : ℕ) (had : List (List ℕ)) (ms : Members) (ends : List ℕ) (Bare : Type 0) (L : List (List ℕ) → Language) (es : List Event) → ((had : List (List ℕ)) → Goes (L had) es) → (Bare → Are es) →
@@ -185,20 +163,10 @@ module _ (start : ℕ) (all : List ℕ) where
     more-members-then once room had no_member (x ∷ ends) Bare L es go bare at us t h f = absurd h
     more-members-then once room had (member place name v ms) [] Bare L es go bare at us t h f = absurd h
     more-members-then once room had (member place name v ms) (x ∷ ends) Bare L es go bare at us t h f =
-        let f1 = back-fits _ _ at us t h f in
         let comma = h.in_second in
-        let f2 = back-fits _ _ _ _ _ comma f1 in
-        let blank = comma.in_second in
-        let g1 = back-fits _ _ _ _ _ blank f2 in
-        let k = blank.in_second in
-        let g2 = back-fits _ _ _ _ _ k g1 in
-        let b = k.in_second in
-        let g3 = back-fits _ _ _ _ _ b g2 in
-        let c = b.in_second in
-        let g4 = back-fits _ _ _ _ _ c g3 in
-        let d = c.in_second in
-        let g5 = back-fits _ _ _ _ _ d g4 in
-        let i = d.in_second in
+        let pair = comma.in_second in
+        let g5 = five-fits _ _ _ _ _ _ _ _ _ pair (back-fits _ _ _ _ _ comma (back-fits _ _ at us t h f)) in
+        let i = pair.in_second.in_second.in_second.in_second.in_second in
         (tt, value-located once room v _ i.front_tokens i.front _ i.in_first (front-fits _ _ _ _ _ i g5) (more-members-then once room (name ∷ had) ms ends Bare L es go bare _ i.back_tokens i.back i.in_second.1.1 (back-fits _ _ _ _ _ i g5)))
 
   bare-next : (next : Open) → IsUnread next → Are (open_events next)

@@ -1,55 +1,383 @@
--- A key comes: it is of a form that isn't built, or late, or it collides, or its value is expected.
-use Rattle.std.proofs.Common.{ℕ, ◌≡◌, refl, sym, ◌∙◌, ap, subst, Bool, true, false, ◌&&◌, ◌||◌, List, [], ◌∷◌, ◌++◌, Option, Some, None, Ok, Err, not, Result}
-use Rattle.jl_model.specs.declared.codes.Code.TheVariants as code
-use Rattle.jl_model.specs.declared.faults.Fault.{Fault}
-use Rattle.jl_model.specs.declared.expansions.Expanded.{Expanded}
-use Rattle.jl_defs.specs.Texts.{Text}
-use Rattle.jl_defs.specs.Context.{Context, term, initial}
-use Rattle.jl_defs.specs.IriExpansion.{expand_iri}
-use Rattle.jl_defs.specs.Settings.{Settings}
-use Rattle.jl_defs.specs.Keys.{Key, its_context, id, kind, value, language, direction, index, other, dropped, property, key_by, key_of, is_id, is_kind, is_value, is_language, is_direction, is_index}
-use Rattle.jl_defs.specs.ObjectContexts.{fault, Inside}
-use Rattle.jl_defs.specs.Kept.{any_key}
-use Rattle.jl_defs.specs.LateKeys.{if_so}
-use Rattle.jl_laws.specs.Spots.{Spot}
-use Rattle.jl_walk.specs.Phases.{Phase, in_rest, follow, phase_faults}
-use Rattle.jl_walk.specs.Stage as stage
-use Rattle.jl_walk.specs.Frames.{Expected, property_value, keyword_value, dropped_value, Object, Frame, values, object as object_frame, types, dropped as dropped_frame, no_value, property_spot, spot_under, spot_in}
-use Rattle.jl_walk.specs.Keys.{with_keyword, key_of_object, with_phase, take_key}
-use Rattle.jl_walk.specs.Steps as walk
-use Rattle.jl_frames.specs.Answers.{is_built_key}
-use Rattle.jl_frames.specs.Machine as frames
-use Rattle.jl_frames.specs.Machine.{Step, state, after_key, all_holding, in_object, on_pending, opens_types, on_types}
-use Rattle.jl_frames.specs.Nodes as nodes
-use Rattle.jl_frames.specs.Nodes.{has_come, with_entry, meaning_of, take_once, take_meaning, no_entries, no_parts, opened as opened_node, with_many_kinds}
-use Rattle.jl_frames.specs.declared.entries.Entries.{Entries}
-use Rattle.jl_frames.specs.declared.keywords.Keyword.{Keyword}
-use Rattle.jl_frames.specs.declared.keywords.Keyword.TheVariants as keyword
-use Rattle.jl_frames.specs.declared.nodes.Node.{Node}
-use Rattle.jl_frames.specs.declared.nodes.Pending.TheVariants as pending
-use Rattle.jl_frames.specs.declared.opens.Open.{Open}
-use Rattle.jl_frames.specs.declared.opens.Open.TheVariants as opens
-use Rattle.jl_frames.specs.declared.values.ValueParts.{ValueParts}
-use Rattle.jl_frames.proofs.Marks.{any-append, entry_of}
-use Rattle.jl_engine.specs.Moves as moves
-use Rattle.jl_engine.specs.Moves.{late_faults, takes_key, plain_frame, opens_array, opens_other}
-use Rattle.jl_engine.specs.KeepsFrames.{kept_pending, IsPlainEntry, AreEntries, IsExpected, KeepsParts, KeepsMarks, plain_inside, KeepsAt, KeepsIn, AgreesFrames, AgreesLeading, InRest, node_valued, kept_node, IsPlainInside, KeepsTypes, TypesIn}
-use Rattle.jl_engine.proofs.KeepsMarked.{keyword-marked, none-marked, holds, holding-valued}
-use Rattle.jl_engine.proofs.KeepsTold.{other-entry, entry-added, its-marks, kept-at, agrees-on}
-use Rattle.jl_engine.proofs.KeepsLater.{same-built, built-no-context, unbuilt-not-late, not-late}
-use Rattle.jl_model.specs.declared.graph_scopes.GraphScope.{GraphScope}
+-- Where values stand, what a frame learns as one ends, and a key or a container that comes.
+use Rattle.std.proofs.Common.{ℕ, ◌≡◌, refl, sym, ◌∙◌, ap, subst, Bool, true, false, List, [], ◌∷◌, Option, Some, None, ◌||◌, ◌++◌, Ok, ◌&&◌, if◌then◌else◌, not, codes, bytes_eq, Err, Result}
+use Rattle.std.specs.List.{list_any}
+use Rattle.std.proofs.lemmas.Slice.Eq.{bytes_eq-Decides}
+use Rattle.std.proofs.lemmas.Bool.{or_parts}
 use Rattle.jl_model.specs.declared.graph_scopes.GraphScope.TheVariants.{Main}
+use Rattle.jl_model.specs.Parts.{Parts}
+use Rattle.jl_model.specs.declared.expansions.Expanded.{Expanded}
+use Rattle.jl_model.specs.declared.expansions.Expanded.TheVariants as expanded
+use Rattle.jl_model.specs.declared.faults.Fault.{Fault}
+use Rattle.jl_model.specs.declared.graph_scopes.GraphScope.{GraphScope}
 use Rattle.jl_model.specs.declared.terms.Term.{Term}
+use Rattle.jl_model.specs.declared.codes.Code.TheVariants as code
+use Rattle.jl_defs.specs.Texts.{Text, is_colon, is_among, is_keyword}
+use Rattle.jl_defs.specs.Context.{initial, Context, term}
+use Rattle.jl_defs.specs.Settings.{Settings, property_of}
+use Rattle.jl_defs.specs.ObjectContexts.{Inside, is_context_name, fault}
+use Rattle.jl_defs.specs.Keys.{Key, property, is_id, is_kind, is_value, is_language, is_direction, is_index, language, its_context, id, kind, value, direction, index, graph, included, list, set, reverse, nest, other, dropped, keyword_key, key_by, key_of}
+use Rattle.jl_defs.specs.Kept.{any_key}
+use Rattle.jl_defs.specs.ValueObjects.{untyped, not_one, is_json}
+use Rattle.jl_defs.specs.IriExpansion.{expand_iri}
+use Rattle.jl_defs.specs.LateKeys.{if_so}
 use Rattle.jl_defs.specs.Items.{Naming}
 use Rattle.jl_defs.specs.NodeMap.{term_of_node}
-use Rattle.jl_defs.specs.ValueObjects.{untyped, not_one, is_json}
-use Rattle.jl_walk.specs.Opening.{items_of, array_under, open_array, Entering, scope_of, fresh, enter_at, object_under, enter}
+use Rattle.jl_laws.specs.Spots.{Around, document, ordinary, linked, Spot, spot, head, moved}
+use Rattle.jl_walk.specs.Frames.{Expected, no_value, property_value, keyword_value, dropped_value, Object, Frame, values, object as object_frame, types, dropped as dropped_frame, property_spot, spot_under, spot_in, its_entry, after_value, told}
+use Rattle.jl_walk.specs.Opening.{scope_of, items_of, array_under, open_array, Entering, fresh, enter_at, object_under, enter}
 use Rattle.jl_walk.specs.Running.{top_spot}
+use Rattle.jl_walk.specs.Stage as stage
+use Rattle.jl_walk.specs.Phases.{Phase, in_rest, follow, phase_faults}
+use Rattle.jl_walk.specs.Keys.{with_keyword, key_of_object, with_phase, take_key}
+use Rattle.jl_walk.specs.Steps as walk
+use Rattle.jl_frames.specs.Machine as frames
+use Rattle.jl_frames.specs.Machine.{on_enter, on_frame, on_pending, enter_in, in_dropped, all_holding, complete, Step, state, after_key, in_object, opens_types, on_types}
+use Rattle.jl_frames.specs.declared.nodes.Node.{Node}
+use Rattle.jl_frames.specs.declared.opens.Open.{Open}
 use Rattle.jl_frames.specs.declared.facts.Frame as fact
+use Rattle.jl_frames.specs.declared.opens.Open.TheVariants as opens
+use Rattle.jl_frames.specs.Nodes as nodes
+use Rattle.jl_frames.specs.Nodes.{no_entries, holding, with_entry, rested, has_come, meaning_of, take_once, take_meaning, no_parts, opened as opened_node, with_many_kinds}
+use Rattle.jl_frames.specs.declared.entries.Entries.{Entries}
+use Rattle.jl_frames.specs.declared.keywords.Keyword.{Keyword}
+use Rattle.jl_frames.specs.declared.values.ValueParts.{ValueParts}
+use Rattle.jl_frames.specs.Formed.{formed}
+use Rattle.jl_frames.specs.Answers.{later_keywords, is_built_key}
+use Rattle.jl_frames.specs.declared.keywords.Keyword.TheVariants as keyword
+use Rattle.jl_frames.specs.declared.nodes.Pending.TheVariants as pending
 use Rattle.jl_frames.specs.declared.roles.Role.TheVariants as role
 use Rattle.jl_frames.specs.declared.values.Kinds.TheVariants as kinds
+use Rattle.jl_engine.specs.KeepsFrames.{kept_pending, items_spot, KeepsAt, KeepsIn, loose_spot, linked_spot, IsPlainRound, HasSpot, with_open, KeepsMarks, node_valued, IsPlainEntry, IsFirstLanguage, AreEntries, KeepsParts, KeepsFrames, kept_node, IsExpected, AgreesLeading, plain_inside, AgreesFrames, InRest, IsPlainInside, KeepsTypes, TypesIn}
+use Rattle.jl_engine.proofs.KeepsMarks.{open-marked, any-append, property-marked, entry_of, keyword-marked, none-marked}
+use Rattle.jl_engine.specs.Moves as moves
+use Rattle.jl_engine.specs.Moves.{late_faults, takes_key, plain_frame, opens_array, opens_other}
 use Rattle.jl_engine.specs.Leads.{naming_shown, frame_by}
-use Rattle.jl_engine.proofs.KeepsSpots.{its-pending, has-spot, not-dropped, enters-here, scope-main}
+
+-- ==== What the frames of the walk tell of the stack that keeps them: the spot of the next value, and where a value may stand.
+
+-- ---- spots
+
+some-or : Spot → Option Spot → Spot
+some-or p None = p
+some-or p (Some q) = q
+
+pub same-spot : (p q : Spot) → Some p ≡ Some q → p ≡ q
+unfolding some-or
+same-spot p q e = ap (some-or p) e
+
+items-loose : (s : Settings) (a : Around) → IsPlainRound a → HasSpot s (items_spot (loose_spot s a)) None
+items-loose s document t = (ordinary, (tt, refl))
+items-loose s ordinary t = (ordinary, (tt, refl))
+items-loose s a t = absurd t
+
+-- the spot of the items of an array
+pub items-spot : (s : Settings) (q : Spot) (n : Option Node) → HasSpot s q n → HasSpot s (items_spot q) n
+items-spot s q None h = subst (λ x. HasSpot s (items_spot x) None) (sym h.1.1) (items-loose s h.0 h.1.0)
+items-spot s q (Some n) h = (h.0, (h.1.0, (ap items_spot h.1.1.0, h.1.1.1)))
+
+property-spot : (s : Settings) (held : Bool) (p : Spot) (i : Inside) (o : Object) (k : List Frame) (n : Node) (name iri : Text) → KeepsAt s held p i o k n →
+    property_spot i o name iri ≡ linked_spot s name iri n.subject
+property-spot s held p i o k n name iri h =
+    ap (λ j. property_spot j o name iri) h.plain
+    ∙ (ap (λ g. spot (initial s.base) (property_of name) ordinary linked (head o.subject iri g)) h.keeps.in_main
+    ∙ ap (λ m. linked_spot s name iri m.subject) (sym h.keeps.same))
+
+-- what an object expects is what its node waits for
+pub its-pending : (s : Settings) (held : Bool) (p : Spot) (i : Inside) (o : Object) (k : List Frame) (n : Node) (x : Expected) → KeepsAt s held p i o k n → o.expects ≡ x →
+    n.pending ≡ kept_pending x
+its-pending s held p i o k n x h e = ap (λ m. m.pending) h.keeps.same ∙ ap kept_pending e
+
+object-spot : (s : Settings) (held : Bool) (q : Spot) (i : Inside) (o : Object) (k : List Frame) (n : Node) (p : Spot) → KeepsAt s held q i o k n →
+    spot_under i o o.expects ≡ Some p → HasSpot s p (Some n)
+object-spot s held q i o k n p h e = by o.expects refl e
+  where
+    by : (x : Expected) → o.expects ≡ x → spot_under i o x ≡ Some p → HasSpot s p (Some n)
+    by no_value y e = absurd cc
+    by (property_value name iri) y e = (
+      name,
+      (
+        iri,
+        (
+          sym (same-spot (property_spot i o name iri) p e) ∙ property-spot s held q i o k n name iri h,
+          (its-pending s held q i o k n (property_value name iri) h y, ap (λ m. m.scope) h.keeps.same ∙ h.keeps.in_main),
+        ),
+      ),
+    )
+    by (keyword_value key at) y e = absurd cc
+    by dropped_value y e = absurd cc
+
+-- the spot of the next value
+pub has-spot : (s : Settings) (held : Bool) (k : List Frame) (n : Option Node) (opened : List Open) (p : Spot) → KeepsIn s held k n opened → top_spot k ≡ Some p → HasSpot s p n
+has-spot s held [] n opened p h e = absurd h
+has-spot s held (values q ∷ []) None [] p h e = (document, (tt, sym (same-spot q p e) ∙ h))
+has-spot s held (values q ∷ (f ∷ k)) n (opens.Array ∷ opened) p h e =
+    subst (λ x. HasSpot s x n) (sym h.0.1.1 ∙ same-spot q p e) (items-spot s h.0.0 n (has-spot s true (f ∷ k) n opened h.0.0 h.1 h.0.1.0))
+has-spot s held (object_frame q i o ∷ k) (Some n) (opens.Object outer ∷ opened) p h e = object-spot s held q i o k n p h.0 e
+has-spot s held (types b m g at ∷ k) n opened p h e = absurd cc
+has-spot s held (dropped_frame ∷ k) n opened p h e = absurd cc
+has-spot s held k n opened p h e = absurd h
+
+pub not-dropped : (s : Settings) (held : Bool) (k : List Frame) (n : Option Node) (opened : List Open) (p : Spot) → KeepsIn s held k n opened → top_spot k ≡ Some p → in_dropped opened ≡ false
+not-dropped s held [] n opened p h e = absurd h
+not-dropped s held (values q ∷ []) None [] p h e = refl
+not-dropped s held (values q ∷ (f ∷ k)) n (opens.Array ∷ opened) p h e = refl
+not-dropped s held (object_frame q i o ∷ k) (Some n) (opens.Object outer ∷ opened) p h e = refl
+not-dropped s held (types b m g at ∷ k) n opened p h e = absurd cc
+not-dropped s held (dropped_frame ∷ k) n opened p h e = absurd cc
+not-dropped s held k n opened p h e = absurd h
+
+-- a container opens where a value may stand
+pub enters-here : (s : Settings) (p : Spot) (f : fact.Frame) (n : Option Node) (opened : List Open) → in_dropped opened ≡ false → HasSpot s p n →
+    on_enter f n opened ≡ on_frame f.role f n opened
+enters-here s p f None opened d h = ap (λ b. enter_in b f None opened) d
+enters-here s p f (Some n) opened d h = ap (λ b. enter_in b f (Some n) opened) d ∙ ap (λ w. on_pending w f n opened) h.1.1.1.0
+
+-- an object there stands in the graph of the document
+pub scope-main : (s : Settings) (p : Spot) (n : Option Node) (at : ℕ) → HasSpot s p n → scope_of p.role.around at p.head.scope ≡ Main
+scope-main s p None at h = by h.0 h.1.0 h.1.1
+  where
+    by : (a : Around) → IsPlainRound a → p ≡ loose_spot s a → scope_of p.role.around at p.head.scope ≡ Main
+    by document t e = ap (λ x. scope_of x.role.around at x.head.scope) e
+    by ordinary t e = ap (λ x. scope_of x.role.around at x.head.scope) e
+    by a t e = absurd t
+scope-main s p (Some n) at h = ap (λ x. scope_of x.role.around at x.head.scope) h.1.1.0
+
+-- ==== The frames where a value has come, or an array has opened.
+
+-- an object with other parts, at its spot
+pub kept-at : (s : Settings) (held now : Bool) (p : Spot) (i : Inside) (o x : Object) (k : List Frame) (n m : Node) (es : Entries) (ps : ValueParts) (h : KeepsAt s held p i o k n) → m ≡ kept_node x h.keeps.valued es ps →
+    x.scope ≡ Main → IsExpected x.expects x.entries → KeepsMarks es (with_open now x.entries) → AreEntries x.entries → KeepsParts h.keeps.valued x ps → (any_key is_kind x.entries ≡ false → x.types ≡ untyped) →
+    KeepsAt s now p i x k m
+kept-at s held now p i o x k n m es ps h same main e marks are parts typed = record {
+  plain = h.plain;
+  round = h.round;
+  keeps = record { valued = h.keeps.valued; entries = es; parts = ps; same = same; in_main = main; expected = e; marks = marks; are_entries = are; its_parts = parts; typed = typed };
+  no_json = h.no_json;
+}
+
+holding-at : (s : Settings) (held : Bool) (p : Spot) (i : Inside) (o : Object) (k : List Frame) (n : Node) → KeepsAt s held p i o k n → KeepsAt s true p i o k (holding n)
+holding-at s held p i o k n h =
+    kept-at s held true p i o o k n (holding n) (record h.keeps.entries { property = true }) h.keeps.parts h (ap holding h.keeps.same) h.keeps.in_main h.keeps.expected
+    (open-marked held h.keeps.entries o.entries h.keeps.marks) h.keeps.are_entries h.keeps.its_parts h.keeps.typed
+
+-- the frames where a value has come, or an array has opened
+pub holds : (s : Settings) (held : Bool) (k : List Frame) (n : Option Node) (opened : List Open) (p : Spot) → KeepsIn s held k n opened → top_spot k ≡ Some p →
+    KeepsIn s true k (all_holding n) opened
+holds s held [] n opened p h e = absurd h
+holds s held (values q ∷ []) None [] p h e = h
+holds s held (values q ∷ (f ∷ k)) n (opens.Array ∷ opened) p h e = (h.0, holds s true (f ∷ k) n opened h.0.0 h.1 h.0.1.0)
+holds s held (object_frame q i o ∷ k) (Some n) (opens.Object outer ∷ opened) p h e = (holding-at s held q i o k n h.0, h.1)
+holds s held (types b m g at ∷ k) n opened p h e = absurd cc
+holds s held (dropped_frame ∷ k) n opened p h e = absurd cc
+holds s held k n opened p h e = absurd h
+
+pub holding-valued : (n : Option Node) → node_valued (all_holding n) ≡ node_valued n
+holding-valued None = refl
+holding-valued (Some n) = refl
+
+-- ==== A value has ended: the frame round it learns of it.
+
+-- ---- one more entry
+
+-- a test that the new entry doesn't pass
+pub other-entry : (t : Key → Bool) (ks : List Key) (q : Key) → t q ≡ false → any_key t (ks ++ q ∷ []) ≡ any_key t ks
+other-entry t ks q e = any-append t ks q ∙ ap (λ b. b || any_key t ks) e
+
+first-alone : (q : Key) → IsFirstLanguage q []
+first-alone language = refl
+first-alone q = tt
+
+later : (a b c : Bool) → (a && (b || c)) ≡ false → (a && c) ≡ false
+later true true c e = absurd cc
+later true false c e = e
+later false b c e = refl
+
+one-language : (a b : Bool) → (a && true) ≡ false → b ≡ false → (a || b) ≡ false
+one-language true b e h = absurd cc
+one-language false b e h = h
+
+first-still : (k : Key) (ks : List Key) (q : Key) → IsFirstLanguage k ks → (is_language q && any_key is_language (k ∷ ks)) ≡ false → IsFirstLanguage k (ks ++ q ∷ [])
+first-still language ks q h e = any-append is_language ks q ∙ one-language (is_language q) (any_key is_language ks) e h
+first-still k ks q h e = tt
+
+pub entry-added : (ks : List Key) (q : Key) → AreEntries ks → IsPlainEntry q → (is_language q && any_key is_language ks) ≡ false → AreEntries (ks ++ q ∷ [])
+entry-added [] q h p e = (p, (first-alone q, tt))
+entry-added (k ∷ ks) q h p e = (h.0, (first-still k ks q h.1.0 e, entry-added ks q h.1.1 p (later (is_language q) (is_language k) (any_key is_language ks) e)))
+
+-- ---- an object after the value of its key
+
+same-parts : (v : Bool) (o : Object) (ps : ValueParts) (ks : List Key) → any_key is_value ks ≡ any_key is_value o.entries → KeepsParts v o ps → KeepsParts v (record o { entries = ks; expects = no_value }) ps
+same-parts true o ps ks e h = h
+same-parts false o ps ks e h = e ∙ h
+
+-- a move that goes, and the stack after it
+pub agrees-on : (s : Settings) (b : Bool) (quads : List Parts) (k : List Frame) (n : Option Node) (opened : List Open) (t : Step) → t ≡ Ok (formed quads, state n opened) → KeepsIn s false k n opened → node_valued n ≡ b →
+    AgreesLeading s b (Ok (quads, k)) t
+agrees-on s b quads k n opened t e h v = (state n opened, (e, ((refl, h), v)))
+
+-- with these entries, and these marks
+pub rested-at : (s : Settings) (held : Bool) (p : Spot) (i : Inside) (o : Object) (k : List Frame) (n : Node) (ks : List Key) (es : Entries) → KeepsAt s held p i o k n →
+    KeepsMarks es ks → AreEntries ks → any_key is_value ks ≡ any_key is_value o.entries → any_key is_kind ks ≡ any_key is_kind o.entries →
+    KeepsAt s false p i (record o { entries = ks; expects = no_value }) k (rested (record n { entries = es }))
+rested-at s held p i o k n ks es h m a v t =
+    kept-at s held false p i o (record o { entries = ks; expects = no_value }) k n (rested (record n { entries = es })) es h.keeps.parts h (ap (λ x. rested (record x { entries = es })) h.keeps.same) h.keeps.in_main tt m a
+    (same-parts h.keeps.valued o h.keeps.parts ks v h.keeps.its_parts) (λ e. h.keeps.typed (sym t ∙ e))
+
+-- its marks, where no array of values is open
+pub its-marks : (s : Settings) (held : Bool) (p : Spot) (i : Inside) (o : Object) (k : List Frame) (n : Node) → KeepsAt s held p i o k n → KeepsMarks n.entries (with_open held o.entries)
+its-marks s held p i o k n h = subst (λ x. KeepsMarks x.entries (with_open held o.entries)) (sym h.keeps.same) h.keeps.marks
+
+-- with the entries that it has
+pub nothing-added : (s : Settings) (p : Spot) (i : Inside) (o : Object) (k : List Frame) (n : Node) → KeepsAt s false p i o k n →
+    KeepsAt s false p i (record o { expects = no_value }) k (rested n)
+nothing-added s p i o k n h = rested-at s false p i o k n o.entries n.entries h (its-marks s false p i o k n h) h.keeps.are_entries refl refl
+
+-- ---- the frame round a value
+
+-- the innermost object, after a value that is kept or not
+abbrev pub if_held : Bool → Option Node → Option Node
+if_held true n = all_holding n
+if_held false n = n
+
+-- the entries after a value
+pub after-entries : (o : Object) (x : Expected) (kept : Bool) → o.expects ≡ x → after_value kept o ≡ record o { entries = o.entries ++ its_entry x kept; expects = no_value }
+after-entries o x kept e = ap (λ y. record o { entries = o.entries ++ its_entry y kept; expects = no_value }) e
+
+append-nothing : (ks : List Key) → ks ++ [] ≡ ks
+append-nothing [] = refl
+append-nothing (k ∷ ks) = ap (λ x. k ∷ x) (append-nothing ks)
+
+-- a property with its entry
+pub property-added : (s : Settings) (held : Bool) (p : Spot) (i : Inside) (o : Object) (k : List Frame) (n : Node) (iri : Text) (es : Entries) → KeepsAt s held p i o k n →
+    KeepsMarks es (o.entries ++ property iri ∷ []) →
+    KeepsAt s false p i (record o { entries = o.entries ++ property iri ∷ []; expects = no_value }) k (rested (record n { entries = es }))
+property-added s held p i o k n iri es h m =
+    rested-at s held p i o k n (o.entries ++ property iri ∷ []) es h m (entry-added o.entries (property iri) h.keeps.are_entries tt refl)
+    (other-entry is_value o.entries (property iri) refl) (other-entry is_kind o.entries (property iri) refl)
+
+object-told : (s : Settings) (p : Spot) (i : Inside) (o : Object) (k : List Frame) (n : Node) (q : Spot) → KeepsAt s false p i o k n → spot_under i o o.expects ≡ Some q →
+    KeepsAt s false p i (after_value true o) k (rested (holding n)) × KeepsAt s false p i (after_value false o) k (rested n)
+object-told s p i o k n q h e = by o.expects refl e
+  where
+    by : (x : Expected) → o.expects ≡ x → spot_under i o x ≡ Some q → KeepsAt s false p i (after_value true o) k (rested (holding n)) × KeepsAt s false p i (after_value false o) k (rested n)
+    by (property_value name iri) y e = (
+      subst (λ z. KeepsAt s false p i z k (rested (holding n))) (sym (after-entries o (property_value name iri) true y))
+          (property-added s false p i o k n iri (record n.entries { property = true }) h (property-marked iri n.entries o.entries (its-marks s false p i o k n h))),
+      subst (λ z. KeepsAt s false p i z k (rested n))
+          (sym (after-entries o (property_value name iri) false y ∙ ap (λ ks. record o { entries = ks; expects = no_value }) (append-nothing o.entries)))
+          (nothing-added s p i o k n h),
+    )
+    by no_value y e = absurd cc
+    by (keyword_value key at) y e = absurd cc
+    by dropped_value y e = absurd cc
+
+same-frame : (q p : Spot) → Some q ≡ Some p → moved q q.role.around p.head ≡ q
+same-frame q p e = ap (λ x. moved q q.role.around x.head) (sym (same-spot q p e))
+
+pub told-keeps : (s : Settings) (kept : Bool) (f : Frame) (k : List Frame) (n : Option Node) (opened : List Open) (p : Spot) → KeepsIn s false (f ∷ k) n opened → spot_in f ≡ Some p →
+    KeepsFrames s (told kept p.head f ∷ k) (complete (if_held kept n) opened)
+told-keeps s true (values q) [] None [] p h e = (refl, same-frame q p e ∙ h)
+told-keeps s false (values q) [] None [] p h e = (refl, same-frame q p e ∙ h)
+told-keeps s true (values q) (f ∷ k) n (opens.Array ∷ opened) p h e =
+    (refl, ((h.0.0, (h.0.1.0, same-frame q p e ∙ h.0.1.1)), holds s true (f ∷ k) n opened h.0.0 h.1 h.0.1.0))
+told-keeps s false (values q) (f ∷ k) n (opens.Array ∷ opened) p h e = (refl, ((h.0.0, (h.0.1.0, same-frame q p e ∙ h.0.1.1)), h.1))
+told-keeps s true (object_frame q i o) k (Some n) (opens.Object outer ∷ opened) p h e = (refl, ((object-told s q i o k n p h.0 e).0, h.1))
+told-keeps s false (object_frame q i o) k (Some n) (opens.Object outer ∷ opened) p h e = (refl, ((object-told s q i o k n p h.0 e).1, h.1))
+told-keeps s kept (types c m g at) k n opened p h e = absurd cc
+told-keeps s kept dropped_frame k n opened p h e = absurd cc
+told-keeps s kept f k n opened p h e = absurd h
+
+-- ==== What keys mean in a context without terms: which of them belong to forms that aren't built, and which come too late.
+
+-- the keys of the forms that aren't built
+abbrev pub is_later : Key → Bool
+is_later its_context = true
+is_later graph = true
+is_later included = true
+is_later list = true
+is_later set = true
+is_later reverse = true
+is_later nest = true
+is_later k = false
+
+-- a key is told as the keyword's text says
+abbrev Same : Text → Key → Type 0
+Same text k = is_among later_keywords text ≡ is_later k
+
+by-test : (P : Key → Type 0) (b : Bool) (k final : Key) → (b ≡ true → P k) → (b ≡ false → P final) → P (if b then k else final)
+by-test P true k final f g = f refl
+by-test P false k final f g = g refl
+
+hit : (text x : Text) (k : Key) → is_among later_keywords x ≡ is_later k → bytes_eq text x ≡ true → is_among later_keywords text ≡ is_later k
+hit text x k h e = subst (λ t. is_among later_keywords t ≡ is_later k) (sym ((bytes_eq-Decides text x).0 e)) h
+
+turned : (text x : Text) → bytes_eq text x ≡ false → bytes_eq x text ≡ false
+turned text x e = by (bytes_eq x text) refl
+  where
+    by : (b : Bool) → bytes_eq x text ≡ b → b ≡ false
+    by true h = absurd (let no : true ≡ false = sym ((bytes_eq-Decides text x).1 (sym ((bytes_eq-Decides x text).0 h))) ∙ e in cc)
+    by false h = refl
+
+miss : (text x : Text) (rest : Bool) → bytes_eq text x ≡ false → rest ≡ false → (bytes_eq x text || rest) ≡ false
+miss text x rest e h = ap (λ b. b || rest) (turned text x e) ∙ h
+
+same-later : (text : Text) → is_among later_keywords text ≡ is_later (keyword_key text)
+same-later text =
+    by-test (Same text) (bytes_eq text (codes "@context")) its_context _ (hit text (codes "@context") its_context refl) (λ e1.
+    by-test (Same text) (bytes_eq text (codes "@id")) id _ (hit text (codes "@id") id refl) (λ e2.
+    by-test (Same text) (bytes_eq text (codes "@type")) kind _ (hit text (codes "@type") kind refl) (λ e3.
+    by-test (Same text) (bytes_eq text (codes "@value")) value _ (hit text (codes "@value") value refl) (λ e4.
+    by-test (Same text) (bytes_eq text (codes "@language")) language _ (hit text (codes "@language") language refl) (λ e5.
+    by-test (Same text) (bytes_eq text (codes "@direction")) direction _ (hit text (codes "@direction") direction refl) (λ e6.
+    by-test (Same text) (bytes_eq text (codes "@index")) index _ (hit text (codes "@index") index refl) (λ e7.
+    by-test (Same text) (bytes_eq text (codes "@graph")) graph _ (hit text (codes "@graph") graph refl) (λ e8.
+    by-test (Same text) (bytes_eq text (codes "@included")) included _ (hit text (codes "@included") included refl) (λ e9.
+    by-test (Same text) (bytes_eq text (codes "@list")) list _ (hit text (codes "@list") list refl) (λ e10.
+    by-test (Same text) (bytes_eq text (codes "@set")) set _ (hit text (codes "@set") set refl) (λ e11.
+    by-test (Same text) (bytes_eq text (codes "@reverse")) reverse _ (hit text (codes "@reverse") reverse refl) (λ e12.
+    by-test (Same text) (bytes_eq text (codes "@nest")) nest other (hit text (codes "@nest") nest refl) (λ e13.
+    miss text (codes "@context") _ e1 (miss text (codes "@graph") _ e8 (miss text (codes "@included") _ e9 (miss text (codes "@list") _ e10 (miss text (codes "@nest") _ e13
+    (miss text (codes "@reverse") _ e12 (miss text (codes "@set") _ e11 refl)))))))))))))))))))
+
+named-later : (b : Bool) (text : Text) → is_later (elim b [ true ↦ property text | false ↦ dropped ]) ≡ false
+named-later true text = refl
+named-later false text = refl
+
+pub built-key : (e : Expanded) → is_built_key e ≡ not (is_later (key_by e))
+built-key expanded.Null = refl
+built-key (expanded.Keyword text) = ap not (same-later text)
+built-key (expanded.Name text) = sym (ap not (named-later (list_any is_colon text) text))
+
+not-later : (q : Key) → not (is_later q) ≡ stage.is_built_key q None
+not-later its_context = refl
+not-later q = refl
+
+-- the walk and the stack know the same keys as those that are built
+pub same-built : (e : Expanded) → is_built_key e ≡ stage.is_built_key (key_by e) None
+same-built e = built-key e ∙ not-later (key_by e)
+
+-- `@context` isn't among them
+pub built-no-context : (b : Option Text) (n : Text) → stage.is_built_key (key_of (initial b) n) None ≡ true → is_context_name n ≡ false
+unfolding key_of expand_iri is_keyword
+built-no-context b n e = by (is_context_name n) refl
+  where
+    by : (x : Bool) → is_context_name n ≡ x → x ≡ false
+    by false f = refl
+    by true f = absurd (let z : true ≡ false = sym e ∙ ap (λ t. stage.is_built_key (key_of (initial b) t) None) ((bytes_eq-Decides n (codes "@context")).0 f) in cc)
+
+-- what isn't built isn't late
+pub unbuilt-not-late : (q : Key) (at : ℕ) → stage.is_built_key q None ≡ false → late_faults q at ≡ []
+unbuilt-not-late id at e = absurd cc
+unbuilt-not-late kind at e = absurd cc
+unbuilt-not-late value at e = absurd cc
+unbuilt-not-late q at e = refl
+
+-- nor is what isn't late a value
+pub not-late : (q : Key) (at : ℕ) → late_faults q at ≡ [] → is_value q ≡ false
+not-late value at e = absurd cc
+not-late q at e = refl
+
+-- ==== A key comes: it is of a form that isn't built, or late, or it collides, or its value is expected.
 
 -- ---- an array
 
@@ -224,14 +552,6 @@ enters s at e name p k n opened h r i x built j =
 
 -- ---- an object that expects a value
 
-or-true : (a : Bool) → (a || true) ≡ true
-or-true true = refl
-or-true false = refl
-
-or-left : (a b : Bool) → (a || b) ≡ false → a ≡ false
-or-left true b e = absurd cc
-or-left false b e = refl
-
 expecting-parts : (v : Bool) (o : Object) (ps : ValueParts) (ks : List Key) (x : Expected) → (v ≡ false → any_key is_value ks ≡ false) → KeepsParts v o ps →
     KeepsParts v (record o { entries = ks; expects = x }) ps
 expecting-parts true o ps ks x e h = h
@@ -261,7 +581,7 @@ entry-at : (s : Settings) (p : Spot) (i : Inside) (o : Object) (k : List Frame) 
 entry-at s p i o k n q at h plain one e v =
     expects-at s p i o k n (o.entries ++ entry_of q ∷ []) (with_entry q n.entries) (keyword_value (entry_of q) at) h (keyword-marked q n.entries o.entries (its-marks s false p i o k n h))
     (entry-added o.entries (entry_of q) h.keeps.are_entries plain one) e v
-    (λ none. or-left (any_key is_kind o.entries) (is_kind (entry_of q)) (sym (any-append is_kind o.entries (entry_of q)) ∙ none))
+    (λ none. (or_parts (is_kind (entry_of q)) (any_key is_kind o.entries) (sym (any-append is_kind o.entries (entry_of q)) ∙ none)).1)
 
 -- the entry of another keyword than `@value`
 no-value : (s : Settings) (p : Spot) (i : Inside) (o : Object) (k : List Frame) (n : Node) (q : Key) (h : KeepsAt s false p i o k n) → is_value q ≡ false →
@@ -269,7 +589,7 @@ no-value : (s : Settings) (p : Spot) (i : Inside) (o : Object) (k : List Frame) 
 no-value s p i o k n q h e v = other-entry is_value o.entries q e ∙ has-value h.keeps.valued o h.keeps.parts h.keeps.its_parts v
 
 comes : (t : Key → Bool) (ks : List Key) (q : Key) → t q ≡ true → any_key t (ks ++ q ∷ []) ≡ true
-comes t ks q e = any-append t ks q ∙ (ap (λ b. any_key t ks || b) e ∙ or-true (any_key t ks))
+comes t ks q e = any-append t ks q ∙ ap (λ b. b || any_key t ks) e
 
 -- ---- a key of an object
 
@@ -347,12 +667,12 @@ unfolding frames.key nodes.take_key
 decided-key s b e at name p i o k n outer opened h r y built v = key-agrees s b (key_by e) at name p i o k n outer opened h r y built v
 
 -- both are of a form that is built, or neither is; then both are late, or neither is
-told-so : (s : Settings) (b c : Bool) (at : ℕ) (fs gs : List Fault) (next : Unit {0} → walk.Step) (then : Unit {0} → Step) → (c ≡ false → gs ≡ []) → (c ≡ true → fs ≡ gs) →
-    (c ≡ true → gs ≡ [] → AgreesLeading s b (next tt) (then tt)) → AgreesLeading s b (walk.if_built c at (λ _. walk.unless_fault fs next)) (moves.unless gs (λ _. moves.if_built c at then))
-told-so s b false at fs gs next then e f g = ap (λ x. moves.unless x (λ _. moves.if_built false at then)) (e refl)
-told-so s b true at fs gs next then e f g = subst (λ x. AgreesLeading s b (walk.unless_fault x next) (moves.unless gs (λ _. then tt))) (sym (f refl)) (by gs (g refl))
+told-so : (s : Settings) (b c : Bool) (at : ℕ) (fs gs : List Fault) (next : Unit {0} → walk.Step) (goes : Unit {0} → Step) → (c ≡ false → gs ≡ []) → (c ≡ true → fs ≡ gs) →
+    (c ≡ true → gs ≡ [] → AgreesLeading s b (next tt) (goes tt)) → AgreesLeading s b (walk.if_built c at (λ _. walk.unless_fault fs next)) (moves.unless gs (λ _. moves.if_built c at goes))
+told-so s b false at fs gs next goes e f g = ap (λ x. moves.unless x (λ _. moves.if_built false at goes)) (e refl)
+told-so s b true at fs gs next goes e f g = subst (λ x. AgreesLeading s b (walk.unless_fault x next) (moves.unless gs (λ _. goes tt))) (sym (f refl)) (by gs (g refl))
   where
-    by : (fs : List Fault) → (fs ≡ [] → AgreesLeading s b (next tt) (then tt)) → AgreesLeading s b (walk.unless_fault fs next) (moves.unless fs (λ _. then tt))
+    by : (fs : List Fault) → (fs ≡ [] → AgreesLeading s b (next tt) (goes tt)) → AgreesLeading s b (walk.unless_fault fs next) (moves.unless fs (λ _. goes tt))
     by [] h = h refl
     by (x ∷ fs) h = refl
 
@@ -370,12 +690,12 @@ key-told s b leading at name p i o k n outer opened h r y unbuilt same v =
     let late = moves.unless_leading leading (late_faults (key_of c name) at) in
     let ph = follow o.phase i name in
     let next : Context → Unit {0} → walk.Step = λ d _. key_of_object (key_of d name) at name p i (with_phase ph o) k in
-    let then : Unit {0} → Step = λ _. frames.key (record { at = at; expanded = e }) (state (Some n) (opens.Object outer ∷ opened)) in
+    let goes : Unit {0} → Step = λ _. frames.key (record { at = at; expanded = e }) (state (Some n) (opens.Object outer ∷ opened)) in
     subst (λ d. AgreesLeading s b (walk.if_built (stage.is_built_key (key_of d name) (term d name)) at (λ _. walk.unless_fault (phase_faults o.phase i name at) (next d)))
-    (moves.unless late (λ _. moves.if_built (is_built_key e) at then))) (sym (ap (λ j. j.final) h.plain))
+    (moves.unless late (λ _. moves.if_built (is_built_key e) at goes))) (sym (ap (λ j. j.final) h.plain))
     (subst (λ z. AgreesLeading s b (walk.if_built (stage.is_built_key (key_of c name) None) at (λ _. walk.unless_fault (phase_faults o.phase i name at) (next c)))
-    (moves.unless late (λ _. moves.if_built z at then))) (sym (same-built e))
-    (told-so s b (stage.is_built_key (key_of c name) None) at (phase_faults o.phase i name at) late (next c) then unbuilt same
+    (moves.unless late (λ _. moves.if_built z at goes))) (sym (same-built e))
+    (told-so s b (stage.is_built_key (key_of c name) None) at (phase_faults o.phase i name at) late (next c) goes unbuilt same
     (λ built none. decided-key s b e at name p i (with_phase ph o) k n outer opened (phase-at s false p i o k n ph h) r y built (v none))))
 
 -- a leading key is told again as it was held

@@ -1,22 +1,28 @@
 -- Events where no object is held, and between the members of one that is.
-use Rattle.std.proofs.Common.{ℕ, ◌≡◌, refl, sym, ◌∙◌, ap, subst, Bool, true, false, not, ◌&&◌, ◌||◌, List, [], ◌∷◌, ◌++◌, Option, Some, None, is_some, Ok, Err, ◌⊎◌, inl, inr}
+use Rattle.std.proofs.Common.{◌≡◌, ap, false, List, Option, Some, None, ℕ, refl, sym, ◌∙◌, subst, Bool, true, not, ◌&&◌, ◌||◌, [], ◌∷◌, ◌++◌, is_some, Ok, Err, ◌⊎◌, inl, inr}
+use Rattle.std.proofs.Math.Bool.{or-false}
+use Rattle.std.proofs.lemmas.Bool.{or_parts}
 use Rattle.std.specs.List.{list_any}
+use Rattle.std.specs.Prelude.{zero}
 use Rattle.jl_model.specs.JsonTree.{scalar, array, object, Members, no_member, member}
-use Rattle.jl_model.specs.declared.codes.Code.TheVariants as code
 use Rattle.jl_model.specs.declared.expansions.Expanded.{Expanded}
-use Rattle.jl_defs.specs.Texts.{Text}
-use Rattle.jl_defs.specs.Context.{Context, initial}
+use Rattle.jl_model.specs.declared.codes.Code.TheVariants as code
+use Rattle.jl_defs.specs.Context.{initial, Context}
 use Rattle.jl_defs.specs.Settings.{Settings}
+use Rattle.jl_defs.specs.Texts.{Text}
 use Rattle.jl_defs.specs.Keys.{Key, kind, id, value, language, direction, index, key_of, is_leading, is_kind, is_value}
 use Rattle.jl_defs.specs.ObjectContexts.{fault, Inside, Look, look_at_key, is_context_name, leads_in, types_in, type_keys, input_type, decide_by, candidates}
 use Rattle.jl_defs.specs.ValueObjects as objects
 use Rattle.jl_defs.specs.ValueObjects.{first_with, is_json_type, type_of_values, all_with}
+use Rattle.jl_defs.specs.LateKeys.{if_so}
 use Rattle.jl_prelude.specs.Classes.{class_of}
 use Rattle.jl_prelude.specs.declared.classes.Class.{Class}
 use Rattle.jl_prelude.specs.declared.classes.Class.TheVariants as class
 use Rattle.jl_laws.specs.Spots.{Spot, stand_of}
-use Rattle.jl_walk.specs.Phases.{Phase, at_start, in_lead, in_run, in_rest, run_until, follow, is_rest, prelude_length, rest_at, phase_faults}
 use Rattle.jl_walk.specs.Frames.{Frame, object as object_frame, Expected, no_value, Object}
+use Rattle.jl_walk.specs.Running as walk
+use Rattle.jl_walk.specs.Running.{top_spot, contexts_of, may_lead, may_type, held_looks, contexts_by, if_decided, second_of, run_key, ending_key, opened, opens, takes, value_step, nothing_held}
+use Rattle.jl_walk.specs.Phases.{Phase, at_start, in_lead, in_run, in_rest, run_until, follow, is_rest, prelude_length, rest_at, phase_faults}
 use Rattle.jl_walk.specs.Steps as steps
 use Rattle.jl_walk.specs.Steps.{then_goes, Step, quiet, unless_fault, if_built}
 use Rattle.jl_walk.specs.Scalars.{take_scalar}
@@ -25,52 +31,51 @@ use Rattle.jl_walk.specs.Keys.{take_key, with_phase, key_of_object}
 use Rattle.jl_walk.specs.Ending.{close}
 use Rattle.jl_walk.specs.Feeding.{entering_as, feed_members}
 use Rattle.jl_walk.specs.Fits.{FitsFrames, FitsMembers, FitsObject}
-use Rattle.jl_walk.specs.Running as walk
-use Rattle.jl_walk.specs.Running.{contexts_of, may_lead, may_type, held_looks, contexts_by, if_decided, second_of, run_key, ending_key, top_spot, opened, opens, takes, value_step, nothing_held}
 use Rattle.jl_walk.specs.States as states
 use Rattle.jl_walk.specs.States.{Second, at, leading, leading_key, running, running_key, Go, go, then_go, settle, members_length}
-use Rattle.jl_frames.specs.Machine as frames
-use Rattle.jl_frames.specs.ReadAs.{read_as}
+use Rattle.jl_walk.specs.Stage.{is_built_key}
+use Rattle.jl_walk.specs.Events as tree
+use Rattle.jl_frames.specs.declared.nodes.Node.{Node}
 use Rattle.jl_frames.specs.declared.states.StackState.{StackState}
+use Rattle.jl_frames.specs.ReadAs.{read_as}
+use Rattle.jl_frames.specs.declared.opens.Open.{Open}
+use Rattle.jl_frames.specs.Machine as frames
+use Rattle.jl_frames.specs.declared.opens.Open.TheVariants as stack
+use Rattle.jl_engine.specs.KeepsFrames.{KeepsFrames, HasSpot, plain_inside, node_valued, AgreesFrames, InRest, KeepsIn}
+use Rattle.jl_engine.proofs.KeepsKeys.{has-spot, built-no-context, phase-at}
 use Rattle.jl_engine.specs.Moves.{opens_array, opens_other, takes_key, takes_scalar}
 use Rattle.jl_engine.specs.Leads.{begun, Admits, holds, decides, refuses, goes_on, is_empty, frame_by}
 use Rattle.jl_engine.specs.Reading.{on_stack, takes_value, opens_object, at_step, settles_then, by_admits, step, Read, replay, enters, settles}
 use Rattle.jl_engine.specs.TreeEvents.{walked}
-use Rattle.jl_engine.specs.KeepsFrames.{KeepsFrames, plain_inside, node_valued, AgreesFrames, InRest, KeepsIn}
 use Rattle.jl_engine.specs.Keeping.{AllRest, StandsAt, json_first, Shows, HeldArray, Held, KeysLead, all_lead, lead_by, reader_by, KeepsLead, KeepsRun, PartIs, between, Agrees}
 use Rattle.jl_engine.specs.declared.events.Event.{Event}
-use Rattle.jl_engine.specs.declared.events.Event.TheVariants as events
 use Rattle.jl_engine.specs.declared.leads.Lead.{Lead}
 use Rattle.jl_engine.specs.declared.leads.LeadPart.{LeadPart}
-use Rattle.jl_engine.specs.declared.leads.LeadPart.TheVariants as parts
 use Rattle.jl_engine.specs.declared.leads.LeadSpot.{LeadSpot}
-use Rattle.jl_engine.specs.declared.leads.LeadSpot.TheVariants as spots
 use Rattle.jl_engine.specs.declared.readers.Reader.{Reader}
 use Rattle.jl_engine.proofs.KeepsFrames.{keeps-array, keeps-close, keeps-key, keeps-other, keeps-scalar, value-here, keeps-enter}
-use Rattle.jl_engine.proofs.KeepsLeadSpots.{spot-plain}
-use Rattle.jl_engine.proofs.KeepsLeadAgrees.{AgreesTo, agrees-then, plain_reader, on-frames, forget-valued, Settled, agrees-settled, settled-so, agrees-go, in-lead, OnLeading, on-leading, RestsIn, array-rests, other-rests, scalar-rests, key-rests, close-rests, close-begins}
-use Rattle.jl_engine.proofs.KeepsLeadTypes.{nothing-last, key-last, plain-candidates, plain-decided, input-shown, json-shown}
-use Rattle.jl_engine.proofs.KeepsLeadTells.{AfterMembers, last_phase, all-tell, OnObject, step-on, unless-object}
-use Rattle.jl_engine.proofs.KeepsLeadHeld.{length-all}
-use Rattle.std.specs.Prelude.{zero}
-use Rattle.jl_defs.specs.LateKeys.{if_so}
-use Rattle.jl_walk.specs.Stage.{is_built_key}
-use Rattle.jl_walk.specs.Events as tree
-use Rattle.jl_frames.specs.declared.nodes.Node.{Node}
-use Rattle.jl_frames.specs.declared.opens.Open.{Open}
-use Rattle.jl_frames.specs.declared.opens.Open.TheVariants as stack
-use Rattle.jl_engine.proofs.KeepsLater.{built-no-context}
-use Rattle.jl_engine.proofs.KeepsKeys.{phase-at}
+use Rattle.jl_engine.proofs.KeepsLeadTells.{AgreesTo, agrees-then, plain_reader, on-frames, forget-valued, Settled, agrees-settled, settled-so, agrees-go, in-lead, OnLeading, on-leading, RestsIn, array-rests, other-rests, scalar-rests, key-rests, close-rests, close-begins, AfterMembers, last_phase, all-tell, OnObject, step-on, unless-object}
+use Rattle.jl_engine.proofs.KeepsLeadShown.{nothing-last, key-last, plain-candidates, plain-decided, input-shown, json-shown, length-all}
+use Rattle.jl_engine.specs.declared.events.Event.TheVariants as events
+use Rattle.jl_engine.specs.declared.leads.LeadPart.TheVariants as parts
+use Rattle.jl_engine.specs.declared.leads.LeadSpot.TheVariants as spots
+
+-- ==== The context of a spot where a value may stand.
+
+its-context : (s : Settings) (p : Spot) (n : Option Node) → HasSpot s p n → p.context ≡ initial s.base
+its-context s p None h = ap (λ (x : Spot). x.context) h.1.1
+its-context s p (Some n) h = ap (λ (x : Spot). x.context) h.1.1.0
+
+pub spot-plain : (s : Settings) (k : List Frame) (st : StackState) (p : Spot) → KeepsFrames s k st → top_spot k ≡ Some p → p.context ≡ initial s.base
+spot-plain s k st p h e = its-context s p st.node (has-spot s false k st.node st.opens p h.1 e)
+
+-- ==== Events where no object is held, and between the members of one that is.
 
 -- ---- it enters
 
 -- the object as what is held decides and names it
 abbrev pub held_entering : Settings → Expanded → Members → Entering
 held_entering s input ms = entering_as (at_start (prelude_length (initial s.base ∷ []) ms)) (plain_inside s input) ms
-
-or-none : (x y : Bool) → (x || y) ≡ false → x ≡ false
-or-none true y e = absurd cc
-or-none false y e = refl
 
 and-so : (x y : Bool) → (x && y) ≡ false → x ≡ true → y ≡ false
 and-so true y e h = e
@@ -119,7 +124,7 @@ entering-keeps s p place input k st ms es m part spot h shows j =
         unless-object s p i k (at_start (prelude_length (c ∷ []) ms)) no_value v [] [] (fresh p place e) (enters_by false place m.name v st) refl refl
         (subst (λ x. AgreesTo (OnLeading s v) (if_built (not x) place (λ _. quiet next)) (enters_by false place m.name v st)) f
         (on-leading s v (enter_at p place (Ok e) k) (frames.enter (frame_by place m.name v) st) st
-        (keeps-enter s place e m.name p k st h.keeps h.top refl shows.name f (λ t. or-none (objects.is_json input) _ (and-so v e.json f t)))))
+        (keeps-enter s place e m.name p k st h.keeps h.top refl shows.name f (λ t. (or_parts (objects.is_json input) _ (and-so v e.json f t)).0))))
 
 -- it enters, and what was held is told
 pub settling : (s : Settings) (p : Spot) (place : ℕ) (input : Expanded) (k : List Frame) (st : StackState) (ms : Members) (es : List Event) (m : Lead) (part : LeadPart) (spot : LeadSpot) →
@@ -283,10 +288,6 @@ lead-decided s p b held more e =
 
 lead-candidates : (s : Settings) (p : Spot) (b : ℕ) → p.context ≡ initial s.base → contexts_of s p b no_member ≡ initial s.base ∷ []
 lead-candidates s p b e = ap (λ x. candidates s x p.under (stand_of p.role.around) b None) e ∙ plain-candidates s s.base p.under (stand_of p.role.around) b
-
-or-false : (x : Bool) → (x || false) ≡ x
-or-false true = refl
-or-false false = refl
 
 pub leads-so : (s : Settings) (p : Spot) (b : ℕ) (n : Text) → p.context ≡ initial s.base → may_lead (contexts_of s p b no_member) n ≡ is_leading (key_of (initial s.base) n)
 leads-so s p b n e = ap (λ cs. list_any (leads_in n) cs) (lead-candidates s p b e) ∙ or-false (is_leading (key_of (initial s.base) n))

@@ -1,5 +1,5 @@
 -- What a key is for, by its name alone.
-use Rattle.std.proofs.Common.{◌≡◌, Bool, true, false, Option, Some, None, refl, sym, ap, ◌∙◌, inl, inr}
+use Rattle.std.proofs.Common.{◌≡◌, ℕ, Bool, true, false, Option, Some, None, refl, sym, ap, ◌∙◌, inl, inr}
 use Rattle.std.proofs.lemmas.Bool.{cases_Bool, false≢true}
 use Rattle.std.proofs.lemmas.Slice.Eq.{bytes_eq-Decides}
 use Rattle.std.specs.List.{list_any}
@@ -7,7 +7,7 @@ use Rattle.std.specs.Prelude.{◌++◌, codes, bytes_eq, if◌then◌else◌, �
 use Rattle.jl_model.specs.declared.expansions.Expanded.TheVariants.{Name}
 use Rattle.jl_defs.specs.Context as spec
 use Rattle.jl_defs.specs.IriExpansion.{compact, expand_iri, by_vocab}
-use Rattle.jl_defs.specs.Keys.{dropped, property, keyword_key, key_by, key_of}
+use Rattle.jl_defs.specs.Keys.{Key, id, dropped, property, keyword_key, key_by, key_of}
 use Rattle.jl_defs.specs.Texts.{Text, is_colon, is_keyword, has_keyword_form}
 use Rattle.jl_context.specs.Contexts.{context_of}
 use Rattle.jl_context.specs.Names.{whole}
@@ -17,6 +17,7 @@ use Rattle.jl_prelude.specs.Classes.{class_of}
 use Rattle.jl_prelude.specs.declared.classes.Class.{Class}
 use Rattle.jl_prelude.specs.declared.classes.Class.TheVariants.{Kind, Identifier, Aside, Value, Other}
 use Rattle.jl_prelude.proofs.ClassLemmas.{keyword_class}
+use Rattle.jl_engine.specs.Moves.{late_faults, late_by}
 
 named_other : (b : Bool) (text : Text) → class_of (elim b [ true ↦ property text | false ↦ dropped ]) ≡ Other
 named_other true text = refl
@@ -34,7 +35,7 @@ vocab_other c None text = name_other text
 vocab_other c (Some v) text = name_other (v ++ text)
 
 -- a text that is no keyword isn't this one
-not_this : (text k : Text) → is_keyword k ≡ true → is_keyword text ≡ false → bytes_eq text k ≡ false
+pub not_this : (text k : Text) → is_keyword k ≡ true → is_keyword text ≡ false → bytes_eq text k ≡ false
 not_this text k is none = elim (cases_Bool (bytes_eq text k)) [
   | inl e ↦ absurd (false≢true (sym none ∙ ap is_keyword ((bytes_eq-Decides text k).0 e) ∙ is))
   | inr e ↦ e
@@ -68,6 +69,11 @@ other_class c text none = elim (cases_Bool (has_keyword_form text)) [
     | inr w ↦ ap (λ e. class_of (key_by e)) (expand_iri-other c text true false none form w) ∙ vocab_other (context_of c) (context_of c).level.vocab text
   ]
 ]
+
+-- late keys, by their classes
+pub late_class : (q : Key) (at : ℕ) → late_by (class_of q) at ≡ late_faults q at
+late_class id at = refl
+late_class q at = refl
 
 pub key_class : (c : Context) (text : Text) → class_of (key_of (context_of c) text) ≡ class_of (keyword_key text)
 unfolding key_of

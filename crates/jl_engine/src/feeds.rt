@@ -155,7 +155,7 @@ impl EngineState {
     }
 
     /// Tells the number that ended before a byte, if there is one.
-    #[tactic(auto, using(crate::proofs::Steps::tells_none))]
+    #[tactic(auto, using(crate::proofs::Readings::tells_none))]
     fn tell_number(
         &mut self,
         alloc: Global,
@@ -173,7 +173,7 @@ impl EngineState {
 
     /// Tells the sign of the byte at this place. Each kind of sign has a function of its own, where
     /// it is known what the event is.
-    #[tactic(auto, using(crate::proofs::Steps::tells_none))]
+    #[tactic(auto, using(crate::proofs::Readings::tells_none))]
     #[inline(always)]
     fn tell_sign(
         &mut self,
@@ -277,7 +277,7 @@ impl EngineState {
     }
 
     /// Tells a token, if there is one.
-    #[tactic(auto, using(crate::proofs::Steps::tells_none))]
+    #[tactic(auto, using(crate::proofs::Readings::tells_none))]
     fn tell_token(
         &mut self,
         alloc: Global,

@@ -108,7 +108,7 @@ fn tell_key(stack: &mut Stack, quads: &mut Quads, key: KeyFact) -> Result<(), Fr
 }
 
 /// The fault of a key that stands after the leading members and may not.
-#[tactic(auto, using(crate::proofs::LateKeys::late_class))]
+#[tactic(auto, using(crate::proofs::KeyClasses::late_class))]
 fn late_fault(leading: bool, expanded: &Expanded, at: u64) -> Option<Fault>
     ensures { listed result
         ≡ spec.unless_leading leading (spec.late_faults (key_by expanded.now) at) }

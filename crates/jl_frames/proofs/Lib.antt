@@ -2,8 +2,4 @@ pub mod KeyMeanings
 pub mod Quads
 pub mod Hanging
 pub mod TextTerms
-pub mod Marks
-pub mod EntryMarks
-pub mod FormedTerms
-pub mod FormedHangs
 pub mod AllFormed

@@ -20,7 +20,7 @@ use Rattle.jl_top.specs.Words.{settings_with}
 use Rattle.jl_top.specs.declared.blocks.Block.{Block}
 use Rattle.jl_top.specs.declared.stops.ReadStop.{ReadStop}
 use Rattle.jl_top.specs.declared.stops.ReadStop.TheVariants.{Refused, TooLong, TakeFault, OutFault, NoMemory}
-use Rattle.jl_engine.proofs.Bytes.{sure-now}
+use Rattle.jl_engine.proofs.Feeding.{sure-now}
 use Rattle.jl_top.proofs.PieceLines.{left_sure, end_left_sure}
 use Rattle.jl_top.proofs.SureQuads.{sure_longer}
 

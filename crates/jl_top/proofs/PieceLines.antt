@@ -16,7 +16,7 @@ use Rattle.jl_top.specs.Pieces.{IsRead, PutsLines, AddsLines, FedLines, StoppedL
 use Rattle.jl_top.specs.declared.blocks.Block.{Block}
 use Rattle.jl_top.proofs.Handing.{hands_same}
 use Rattle.jl_top.proofs.LineFronts.{IsClosed, tells_lax, puts_front}
-use Rattle.jl_engine.proofs.Bytes.{sure-now}
+use Rattle.jl_engine.proofs.Feeding.{sure-now}
 use Rattle.jl_top.proofs.SureQuads.{sure_front, sure_longer}
 
 filter_all : (quads : List Parts) → filter (λ _. true) quads ≡ quads

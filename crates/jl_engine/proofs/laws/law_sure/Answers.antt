@@ -1,4 +1,4 @@
-use Rattle.jl_engine.proofs.Bytes.{sure-now}
+use Rattle.jl_engine.proofs.Feeding.{sure-now}
 use Rattle.jl_engine.proofs.laws.law_sure.Goals as goal
 
 pub returns : goal.returns

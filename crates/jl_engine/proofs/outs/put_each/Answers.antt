@@ -1,6 +1,6 @@
 use Rattle.std.proofs.Common.{◌∷◌, [], ◌+◌, drop}
 use Rattle.jl_engine.proofs.HeldMarks.{item_more, none_after}
-use Rattle.jl_engine.proofs.Saying.{goes_on, stops_on, ends_on}
+use Rattle.jl_engine.proofs.Feeding.{goes_on, stops_on, ends_on}
 use Rattle.jl_engine.proofs.outs.put_each.Goals as goal
 
 pub returns-in-Err-clause-put : goal.returns-in-Err-clause-put

@@ -1,5 +1,5 @@
 use Rattle.std.proofs.Common.{drop}
-use Rattle.jl_engine.proofs.Saying.{Going}
+use Rattle.jl_engine.proofs.Feeding.{Going}
 use Rattle.jl_engine.proofs.outs.put_each.Given as goal
 
 abbrev pub invariant-loop-quad : goal.invariant-loop-quad

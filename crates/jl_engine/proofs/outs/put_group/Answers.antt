@@ -1,6 +1,6 @@
 use Rattle.std.proofs.Common.{◌∷◌, []}
 use Rattle.jl_engine.specs.Marks.{refilled}
-use Rattle.jl_engine.proofs.Saying.{put_then, stops_on}
+use Rattle.jl_engine.proofs.Feeding.{put_then, stops_on}
 use Rattle.jl_engine.proofs.outs.put_group.Goals as goal
 
 pub returns-in-Err-clause-put : goal.returns-in-Err-clause-put

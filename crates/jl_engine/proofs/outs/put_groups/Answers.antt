@@ -1,7 +1,7 @@
 use Rattle.std.proofs.Common.{◌+◌, ap, drop}
 use Rattle.jl_engine.specs.Marks.{all_of}
 use Rattle.jl_engine.proofs.HeldMarks.{item_more, none_after}
-use Rattle.jl_engine.proofs.Saying.{goes_on, stops_on, ends_on}
+use Rattle.jl_engine.proofs.Feeding.{goes_on, stops_on, ends_on}
 use Rattle.jl_engine.proofs.outs.put_groups.Goals as goal
 
 pub returns-in-Err-clause-put : goal.returns-in-Err-clause-put

@@ -1,6 +1,6 @@
 use Rattle.std.proofs.Common.{drop}
 use Rattle.jl_engine.specs.Marks.{all_of}
-use Rattle.jl_engine.proofs.Saying.{Going}
+use Rattle.jl_engine.proofs.Feeding.{Going}
 use Rattle.jl_engine.proofs.outs.put_groups.Given as goal
 
 abbrev pub invariant-loop-group : goal.invariant-loop-group

@@ -5,7 +5,7 @@ use Rattle.jl_engine.specs.Marks.{HaveObjects, itself, refilled, with_iri}
 use Rattle.jl_engine.specs.Putting.{Puts}
 use Rattle.jl_engine.specs.Standing.{WerePut}
 use Rattle.jl_engine.proofs.HeldMarks.{first_refilled, none_cut}
-use Rattle.jl_engine.proofs.Saying.{goes_on, stops_on, ends_on}
+use Rattle.jl_engine.proofs.Feeding.{goes_on, stops_on, ends_on}
 use Rattle.jl_engine.proofs.outs.put_objects.Goals as goal
 
 pub returns-in-Err-clause-put : goal.returns-in-Err-clause-put

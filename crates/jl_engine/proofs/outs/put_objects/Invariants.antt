@@ -2,7 +2,7 @@ use Rattle.std.proofs.Common.{◌≡◌, drop}
 use Rattle.jl_model.specs.Parts.{with_object}
 use Rattle.jl_model.specs.declared.terms.Term.{Term}
 use Rattle.jl_engine.specs.Marks.{HaveObjects, refilled}
-use Rattle.jl_engine.proofs.Saying.{Going}
+use Rattle.jl_engine.proofs.Feeding.{Going}
 use Rattle.jl_engine.proofs.outs.put_objects.Given as goal
 
 abbrev pub invariant-loop-size : goal.invariant-loop-size

@@ -1,5 +1,5 @@
 use Rattle.jl_engine.specs.Marks.{all_of}
-use Rattle.jl_engine.proofs.Saying.{put_then}
+use Rattle.jl_engine.proofs.Feeding.{put_then}
 use Rattle.jl_engine.proofs.outs.put_some.Goals as goal
 
 pub returns-clause-put : goal.returns-clause-put

@@ -1,6 +1,6 @@
 use Rattle.std.proofs.Common.{refl, subst, sym}
 use Rattle.jl_engine.specs.Standing.{Stands}
-use Rattle.jl_engine.proofs.Bytes.{stopped-there}
+use Rattle.jl_engine.proofs.Feeding.{stopped-there}
 use Rattle.jl_engine.proofs.engines.Engine.feed.Goals as goal
 
 pub returns-in-Err-clause-stopped : goal.returns-in-Err-clause-stopped

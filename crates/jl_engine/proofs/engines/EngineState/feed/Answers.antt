@@ -1,8 +1,7 @@
 use Rattle.std.proofs.Common.{rules, refl, subst, ◌∙◌, ◌++◌, take, arith}
 use Rattle.std.proofs.lemmas.Grind.{common_steps}
 use Rattle.jl_engine.specs.Standing.{Fed, Stopped}
-use Rattle.jl_engine.proofs.Bytes.{rest_is}
-use Rattle.jl_engine.proofs.Feeding.{fed-none, part-fed, part-stopped, whole-fed}
+use Rattle.jl_engine.proofs.Feeding.{rest_is, fed-none, part-fed, part-stopped, whole-fed}
 use Rattle.jl_engine.proofs.engines.EngineState.feed.Goals as goal
 
 pub loop-at-init : goal.loop-at-init

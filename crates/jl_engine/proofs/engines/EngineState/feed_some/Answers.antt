@@ -6,9 +6,8 @@ use Rattle.jl_token.specs.Nexts.{TakesUpTo}
 use Rattle.jl_engine.specs.Standing.{Fed, Stopped}
 use Rattle.jl_engine.specs.Stops.{of_lexer}
 use Rattle.jl_engine.specs.declared.engines.EngineState.{EngineState}
-use Rattle.jl_engine.proofs.Bytes.{run-engine, run-before, run-fed, run-stopped, front-stopped, byte-fails, byte-kept, byte-unsaid, kept-bytes}
-use Rattle.jl_engine.proofs.Feeding.{run-stands, fed-run}
-use Rattle.jl_engine.proofs.Steps.{run_more, last_more, stopped_more}
+use Rattle.jl_engine.proofs.Feeding.{run-engine, run-before, run-fed, run-stopped, front-stopped, byte-fails, byte-kept, byte-unsaid, kept-bytes, run-stands, fed-run}
+use Rattle.jl_engine.proofs.Readings.{run_more, last_more, stopped_more}
 use Rattle.jl_engine.proofs.engines.EngineState.feed_some.Goals as goal
 
 pub returns-in-Nothing-clause-fed : goal.returns-in-Nothing-clause-fed

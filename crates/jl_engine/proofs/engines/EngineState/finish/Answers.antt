@@ -1,6 +1,6 @@
 use Rattle.std.proofs.Common.{subst, sym}
 use Rattle.jl_engine.specs.Standing.{StoppedAtEnd}
-use Rattle.jl_engine.proofs.Bytes.{end-fails, end-answers, end-stops}
+use Rattle.jl_engine.proofs.Feeding.{end-fails, end-answers, end-stops}
 use Rattle.jl_engine.proofs.engines.EngineState.finish.Goals as goal
 
 pub returns-in-Err-clause-stopped : goal.returns-in-Err-clause-stopped

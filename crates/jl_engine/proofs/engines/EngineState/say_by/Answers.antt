@@ -1,5 +1,5 @@
 use Rattle.jl_token.specs.Lexed.{told}
-use Rattle.jl_engine.proofs.Saying.{says_told, says_none}
+use Rattle.jl_engine.proofs.Feeding.{says_told, says_none}
 use Rattle.jl_engine.proofs.engines.EngineState.say_by.Goals as goal
 
 pub returns-in-Ok-clause-says : goal.returns-in-Ok-clause-says

@@ -1,5 +1,5 @@
 use Rattle.jl_engine.specs.Marks.{event_lent}
-use Rattle.jl_engine.proofs.Steps.{tells_one}
+use Rattle.jl_engine.proofs.Readings.{tells_one}
 use Rattle.jl_engine.proofs.engines.EngineState.tell_event.Goals as goal
 
 pub returns : goal.returns

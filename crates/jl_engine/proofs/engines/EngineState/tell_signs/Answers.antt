@@ -1,6 +1,6 @@
 use Rattle.std.proofs.Common.{ap}
 use Rattle.jl_token.specs.Lexed.{number_of, token_of}
-use Rattle.jl_engine.proofs.Steps.{tells_both, tells_stop}
+use Rattle.jl_engine.proofs.Readings.{tells_both, tells_stop}
 use Rattle.jl_engine.proofs.engines.EngineState.tell_signs.Goals as goal
 
 pub returns-in-Ok : goal.returns-in-Ok

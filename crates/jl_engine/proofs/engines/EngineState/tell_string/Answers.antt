@@ -2,7 +2,7 @@ use Rattle.std.proofs.Common.{ap, ◌∙◌}
 use Rattle.jl_model.specs.declared.scalars.Scalar.TheVariants as scalars
 use Rattle.jl_engine.specs.Saying.{scalar_read}
 use Rattle.jl_engine.specs.declared.events.Event.TheVariants as events
-use Rattle.jl_engine.proofs.Steps.{tells_as}
+use Rattle.jl_engine.proofs.Readings.{tells_as}
 use Rattle.jl_engine.proofs.engines.EngineState.tell_string.Goals as goal
 
 pub returns : goal.returns

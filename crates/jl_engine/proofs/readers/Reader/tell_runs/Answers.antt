@@ -5,7 +5,7 @@ use Rattle.jl_frames.specs.Answers.{HasCause}
 use Rattle.jl_engine.specs.Marks.{all_of}
 use Rattle.jl_engine.specs.Reading.{before, replay}
 use Rattle.jl_engine.proofs.Lists.{nothing_left}
-use Rattle.jl_engine.proofs.Readings.{reads_on, run_more, run_stops, stops_after}
+use Rattle.jl_engine.proofs.Readings.{reads_on, run_stops, run_told, stops_after}
 use Rattle.jl_engine.proofs.readers.Reader.tell_runs.Goals as goal
 
 pub returns-in-Err : goal.returns-in-Err
@@ -27,7 +27,7 @@ loop-run-preserved c =
     let steps : into_iter_items l.run-iterator ≡ c.in-Some.run' ∷ into_iter_items c.next.new.self = c.in-Some.ensures.steps.0 in (
       l.invariant.0
           ∙ ap (λ es. before l.quads (replay d es l.self)) (ap (λ rs. all_of rs ++ last) steps ∙ append_assoc c.in-Some.run' rest last)
-          ∙ run_more d c.in-Some.run' (rest ++ last) l.quads c.tell_run.new.quads l.self c.tell_run.new.self c.in_default.ensures,
+          ∙ run_told d c.in-Some.run' (rest ++ last) l.quads c.tell_run.new.quads l.self c.tell_run.new.self c.in_default.ensures,
       let was = l.invariant.1 in
           let gone = c.in-Some.ensures.steps.1 in
           let short = ap length steps in
