@@ -25,7 +25,7 @@ pub enum Event {
 const RUN_BYTES: usize = 65_536;
 
 /// How many events a run has at most.
-const RUN_EVENTS: usize = 2_048;
+const RUN_EVENTS: usize = 8_192;
 
 /// A run of events, which contracts see as a list: a mark for each, and their texts one after
 /// another.
