@@ -265,7 +265,8 @@ impl Lead {
         scalar: LentScalar<'_>,
     ) -> Result<Admit, NoMemory>
         ensures { IfOk result (λ admit. Answers admit self.old self.new
-            (spec.scalar_in self.old.spot (context_of context.now) (scalar_lent scalar.entry) self.old)) }
+            (spec.scalar_in self.old.spot (context_of context.now) (scalar_lent scalar.entry)
+            self.old)) }
     {
         match self.spot {
             LeadSpot::Inside(_) => return Ok(Admit::Dropped),
@@ -310,7 +311,8 @@ impl Lead {
         scalar: LentScalar<'_>,
     ) -> Result<(), NoMemory>
         ensures { OnOk result (self.new
-            ≡ spec.named (spec.name_of (context_of context.now) (scalar_lent scalar.entry)) self.old) }
+            ≡ spec.named (spec.name_of (context_of context.now) (scalar_lent scalar.entry))
+            self.old) }
     {
         let name = match scalar {
             LentScalar::Str(text) => Some(expand_iri(alloc, context, text, false, true)?),

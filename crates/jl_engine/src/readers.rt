@@ -50,7 +50,8 @@ impl Reader {
         quads: &mut Quads,
     ) -> Result<(), FrameStop>
         ensures { Reads result quads.old
-            (spec.step (context_of context.now) (event_lent event.entry) self.old) quads.new self.new }
+            (spec.step (context_of context.now) (event_lent event.entry) self.old)
+            quads.new self.new }
     {
         if self.lead.is_some() {
             return self.lead_step(alloc, context, event, quads);
